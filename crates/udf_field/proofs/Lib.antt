@@ -1,0 +1,5 @@
+pub mod Table
+pub mod Whole
+pub mod Padded
+pub mod Puts
+pub mod Anew

@@ -1,0 +1,3 @@
+pub mod TagView
+pub mod FieldView
+pub mod Lent
