@@ -1,0 +1,11 @@
+pub mod Covering
+pub mod Undoing
+pub mod History
+pub mod Ending
+pub mod Torn
+pub mod Moments
+pub mod Runs
+pub mod Refilling
+pub mod Sparsely
+pub mod SparseBytes
+pub mod SameBytes

@@ -1,0 +1,17 @@
+pub mod Files
+pub mod Causes
+pub mod Stops
+pub mod Written
+pub mod Numbered
+pub mod SinkInMemory
+pub mod OverFiles
+pub mod Held
+pub mod Ranges
+pub mod Tracked
+pub mod Undo
+pub mod Script
+pub mod Memory
+pub mod Sizes
+pub mod Run
+pub mod Refill
+pub mod Blocks

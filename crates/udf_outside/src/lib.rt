@@ -1,0 +1,38 @@
+//! What the tools reach outside: a bench with an image and a side file, and a sink for lines. Its one contract towards the
+//! layers above is the trait `Bench`: each call tells what it does to the two files, which failures have a cause, and what
+//! a stop at any moment may leave of the files; laws and lemmas on runs of calls stand beside it. A bench in memory keeps
+//! its past and can be stopped and begun again; one over real files tells no bytes. It stands on the definition of an
+//! image's blocks alone.
+#![tactic(auto)]
+
+mod bench;
+mod block;
+mod blocks;
+mod change;
+mod file_bench;
+mod laws;
+mod memory;
+mod memory_bench;
+mod memory_file;
+mod memory_sink;
+mod part;
+mod range;
+mod real_file;
+mod restart;
+mod script;
+mod sink;
+mod sparse;
+mod standard_sink;
+
+pub use bench::{Access, Bench, Failed, Role, read_block};
+pub use file_bench::FileBench;
+pub use laws::{moments_law, run_law, sync_law, write_law};
+pub use memory::MemBench;
+pub use memory_sink::MemSink;
+pub use script::Stop;
+pub use sink::Sink;
+pub use standard_sink::StdSink;
+pub use std::alloc::AllocError as NoMemory;
+
+#[cfg(test)]
+mod tests;
