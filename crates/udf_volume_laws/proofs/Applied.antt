@@ -1,0 +1,65 @@
+-- A plan, applied, gives the image afterwards.
+use Rattle.std.proofs.Common.{◌≡◌, ℕ, zero, suc, ◌+◌, ◌/◌, ◌<◌, ◌≤◌, arith, sym, ◌∙◌, ap, List, ◌∷◌, length, Bool, true, false, not, inl, inr, ◌⊎◌}
+use mathlib.Core.Path.{fun_ext}
+use Rattle.std.specs.List.{filter, range_with_len}
+use Rattle.std.specs.Str.{bytes_eq}
+use Rattle.std.proofs.lemmas.Bool.{cases_Bool, cases_lt, not-false}
+use Rattle.udf_model.specs.Image.{block_of, blocks_in}
+use Rattle.udf_volume_model.specs.Edits.{look, put_blocks}
+use Rattle.udf_volume_model.specs.Accepted.{mended, difference, plan_of}
+use Rattle.udf_volume_laws.proofs.Puts.{AreWithin, off, chosen, chosen_off, chosen_put, chosen_within, all_length, block_after}
+use Rattle.udf_volume_laws.proofs.Members.{IsIn, kept_in, in_kept}
+use Rattle.udf_volume_laws.proofs.Within.{block_ends}
+use Rattle.udf_volume_laws.proofs.Final.{block_length}
+use Rattle.udf_volume_laws.proofs.Difference.{same_image, same_bytes, length_kept, past_kept}
+
+pub in_range : (count start n : ℕ) → start ≤ n → n < start + count → IsIn n (range_with_len start count)
+in_range zero start n l h = absurd (omega arith)
+in_range (suc count) start n l h = by_order (in_range count (start + 1) n) (cases_lt start n) where
+  by_order : (start + 1 ≤ n → n < start + 1 + count → IsIn n (range_with_len (start + 1) count)) → (start < n) ⊎ (n ≤ start) → IsIn n (start ∷ range_with_len (start + 1) count)
+  by_order rest (inl k) = inr (rest (omega arith) (omega arith))
+  by_order rest (inr k) = inl (let e : n ≡ start = omega arith in e)
+
+pub range_in : (count start n : ℕ) → IsIn n (range_with_len start count) → (start ≤ n) × (n < start + count)
+range_in zero start n i = absurd i
+range_in (suc count) start n (inl e) = (omega arith, omega arith)
+range_in (suc count) start n (inr i) = let r = range_in count (start + 1) n i in (omega (arith, r.0), omega (arith, r.1))
+
+module _ (size : ℕ) (image after : List ℕ) (some : 0 < size) (long : length after ≡ length image) where
+  abbrev differs : ℕ → Bool
+  differs n = not (bytes_eq (block_of size image n) (block_of size after n))
+
+  abbrev sectors : List ℕ
+  sectors = filter differs (range_with_len 0 (blocks_in size image))
+
+  fits : AreWithin size (length image) (chosen (block_of size after) sectors)
+  fits = chosen_within size (length image) (block_of size after) sectors
+      (λ n i. let r = range_in (blocks_in size image) 0 n (kept_in differs (range_with_len 0 (blocks_in size image)) n i).0 in
+      (block_length size after n (omega (arith, r.1, ap (λ k. k / size) long)), block_ends size (length image) n (omega (arith, r.1))))
+
+  by_test : (n : ℕ) → n < blocks_in size image → (differs n ≡ true) ⊎ (differs n ≡ false) → look n (chosen (block_of size after) sectors) (block_of size image n) ≡ block_of size after n
+  by_test n below (inl t) = chosen_put (block_of size after) sectors n (block_of size image n)
+      (in_kept differs (range_with_len 0 (blocks_in size image)) n (in_range (blocks_in size image) 0 n (omega arith) (omega arith)) t)
+  by_test n below (inr t) =
+      off n (chosen (block_of size after) sectors) (block_of size image n)
+      (chosen_off (block_of size after) sectors n (λ i. let u = (kept_in differs (range_with_len 0 (blocks_in size image)) n i).1 in let f : true ≡ false = sym u ∙ t in absurd (cc)))
+      ∙ same_bytes _ _ (not-false _ t)
+
+  by_order : ((n : ℕ) → blocks_in size image ≤ n → block_of size image n ≡ block_of size after n) → (n : ℕ)
+      → (n < blocks_in size image) ⊎ (blocks_in size image ≤ n) → look n (chosen (block_of size after) sectors) (block_of size image n) ≡ block_of size after n
+  by_order tail n (inl below) = by_test n below (cases_Bool (differs n))
+  by_order tail n (inr past) =
+      off n (chosen (block_of size after) sectors) (block_of size image n)
+      (chosen_off (block_of size after) sectors n (λ i.
+      let r = range_in (blocks_in size image) 0 n (kept_in differs (range_with_len 0 (blocks_in size image)) n i).0 in absurd (omega (arith, r.1))))
+      ∙ tail n past
+
+  pub applied : ((n : ℕ) → blocks_in size image ≤ n → block_of size image n ≡ block_of size after n) → put_blocks size (plan_of size image after) image ≡ after
+  unfolding plan_of difference
+  applied tail =
+      same_image size _ after some (all_length size (chosen (block_of size after) sectors) image fits ∙ sym long)
+      (fun_ext (λ n. block_after size (chosen (block_of size after) sectors) image n fits ∙ by_order tail n (cases_lt n (blocks_in size image))))
+
+pub plan_gives : (size : ℕ) (image : List ℕ) → 512 ≤ size → put_blocks size (plan_of size image (mended size image)) image ≡ mended size image
+plan_gives size image large =
+    applied size image (mended size image) (omega arith) (length_kept size image large) (λ n past. sym (past_kept size image n large past))

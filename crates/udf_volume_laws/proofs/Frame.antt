@@ -1,0 +1,134 @@
+-- The volume is read from its two extents and from the places outside its areas alone.
+use Rattle.std.proofs.Common.{◌≡◌, ℕ, ◌+◌, ◌<◌, ◌≤◌, refl, sym, ◌∙◌, ap, List, [], ◌∷◌, length, true, cond, ◌||◌, leb, eqb, Option, Some, None, inl, inr, ◌⊎◌}
+use Rattle.std.proofs.lemmas.Bool.{and_parts, and_from, ne_eqb, eq-eqb, cases_eq}
+use Rattle.std.specs.Prelude.{is_none}
+use Rattle.std.specs.List.{list_all, filter}
+use Rattle.udf_volume_model.specs.Anchor.{Anchor, blocks_of, places, anchor_in}
+use Rattle.udf_volume_model.specs.Kept.{Volume, other as other_of, extent_of, opposite, limit_of, sequence_at, volume_by, volume_at, led_from, volume_in, or_else}
+use Rattle.udf_volume_model.specs.Areas.{is_outside}
+use Rattle.udf_volume_model.specs.Layout.{are_places_lawful, is_lawful, is_passed, earlier}
+use Rattle.udf_volume_model.specs.Rules.{ascending_places, is_eligible, is_good, eligible, anchors_hold, sequences_hold, agrees}
+use Rattle.udf_volume_laws.proofs.Members.{IsIn, kept_in, same_filter, same_all}
+use Rattle.udf_volume_laws.proofs.Ascending.{from_ascending}
+use Rattle.udf_volume_laws.proofs.Places.{anchor_from}
+use Rattle.udf_volume_laws.proofs.Led.{IsMain, IsReserve, leads_none, same_sequence}
+use Rattle.udf_volume_laws.proofs.After.{IsAccepted, Facts, facts, areas_in}
+
+-- the disks agree in what a volume is read from
+pub record AgreeOn (size blocks : ℕ) (disk other : ℕ → List ℕ) (volume : Volume) : Type 0 where
+  pub main : (n : ℕ) → volume.anchor.main.start ≤ n → n < volume.anchor.main.start + blocks_of size volume.anchor.main → disk n ≡ other n
+  pub reserve : (n : ℕ) → volume.anchor.reserve.start ≤ n → n < volume.anchor.reserve.start + blocks_of size volume.anchor.reserve → disk n ≡ other n
+  pub at_places : (n : ℕ) → IsIn n (places blocks) → is_outside (areas_in size volume) n ≡ true → disk n ≡ other n
+
+no_anchor : (o : Option Anchor) → is_none o ≡ true → o ≡ None
+no_anchor None e = refl
+no_anchor (Some a) e = absurd (cc)
+
+same_volume : (size : ℕ) (disk : ℕ → List ℕ) (volume : Volume) → IsMain size disk volume ⊎ IsReserve size disk volume
+    → volume_by volume.place volume.anchor (sequence_at size disk (limit_of size volume.anchor) volume.anchor.main) (sequence_at size disk (limit_of size volume.anchor) volume.anchor.reserve)
+    ≡ Some volume
+same_volume size disk volume (inl m) =
+    ap (λ main. volume_by volume.place volume.anchor main (sequence_at size disk (limit_of size volume.anchor) volume.anchor.reserve)) m.1
+    ∙ ap (λ w. Some (record { place = volume.place; anchor = volume.anchor; which = w; list = volume.list })) (sym m.0)
+same_volume size disk volume (inr m) =
+    ap (λ main. volume_by volume.place volume.anchor main (sequence_at size disk (limit_of size volume.anchor) volume.anchor.reserve)) m.1
+    ∙ ap (volume_by volume.place volume.anchor None) m.2
+    ∙ ap (λ w. Some (record { place = volume.place; anchor = volume.anchor; which = w; list = volume.list })) (sym m.0)
+
+module _ (size blocks : ℕ) (disk other : ℕ → List ℕ) (volume : Volume) (given : IsAccepted size blocks disk volume)
+    (agree : AgreeOn size blocks disk other volume) where
+  known : Facts size blocks disk volume
+  known = facts size blocks disk volume given
+
+  place_leads : led_from size blocks other volume.place ≡ Some volume
+  unfolding led_from
+  place_leads =
+      ap (λ b. volume_at size other volume.place (anchor_in size blocks volume.place b)) (sym (agree.at_places volume.place known.member known.outside))
+      ∙ ap (volume_at size other volume.place) (anchor_from size blocks volume.place (disk volume.place) volume.anchor known.anchor)
+      ∙ ap (λ main. volume_by volume.place volume.anchor main (sequence_at size other (limit_of size volume.anchor) volume.anchor.reserve))
+      (sym (same_sequence size disk other (limit_of size volume.anchor) volume.anchor.main agree.main))
+      ∙ ap (volume_by volume.place volume.anchor (sequence_at size disk (limit_of size volume.anchor) volume.anchor.main))
+      (sym (same_sequence size disk other (limit_of size volume.anchor) volume.anchor.reserve agree.reserve))
+      ∙ same_volume size disk volume known.side
+
+  passed_stays : (n : ℕ) → IsIn n (places blocks) → is_passed size blocks disk (areas_in size volume) n ≡ true → is_passed size blocks other (areas_in size volume) n ≡ true
+  unfolding is_passed
+  passed_stays n i e =
+      let parts = and_parts (is_outside (areas_in size volume) n) (is_none (anchor_in size blocks n (disk n))) e in
+      and_from _ _ parts.0 (ap (λ b. is_none (anchor_in size blocks n b)) (sym (agree.at_places n i parts.0)) ∙ parts.1)
+
+  none_there : (n : ℕ) → is_passed size blocks other (areas_in size volume) n ≡ true → led_from size blocks other n ≡ None
+  unfolding is_passed
+  none_there n e =
+      leads_none size blocks other n (no_anchor (anchor_in size blocks n (other n)) (and_parts (is_outside (areas_in size volume) n) (is_none (anchor_in size blocks n (other n))) e).1)
+
+  reached : (xs : List ℕ) → ((n : ℕ) → IsIn n xs → IsIn n (places blocks)) → list_all (is_passed size blocks disk (areas_in size volume)) (earlier volume.place xs) ≡ true
+      → IsIn volume.place xs → (volume_in size blocks other xs ≡ Some volume) × (list_all (is_passed size blocks other (areas_in size volume)) (earlier volume.place xs) ≡ true)
+  unfolding volume_in earlier
+  reached [] sub e i = absurd i
+  reached (x ∷ xs) sub e i = by_here (reached xs (λ n j. sub n (inr j))) (cases_eq x volume.place) i where
+    by_here : (list_all (is_passed size blocks disk (areas_in size volume)) (earlier volume.place xs) ≡ true → IsIn volume.place xs
+        → (volume_in size blocks other xs ≡ Some volume) × (list_all (is_passed size blocks other (areas_in size volume)) (earlier volume.place xs) ≡ true))
+        → (x ≡ volume.place) ⊎ (x ≡ volume.place → ⊥) → IsIn volume.place (x ∷ xs)
+        → (or_else (led_from size blocks other x) (volume_in size blocks other xs) ≡ Some volume)
+        × (list_all (is_passed size blocks other (areas_in size volume)) (cond (eqb x volume.place) [] (x ∷ earlier volume.place xs)) ≡ true)
+    by_here rest (inl here) j = (
+      ap (λ o. or_else o (volume_in size blocks other xs)) (ap (led_from size blocks other) here ∙ place_leads),
+      ap (λ b. list_all (is_passed size blocks other (areas_in size volume)) (cond b [] (x ∷ earlier volume.place xs))) (eq-eqb _ _ here),
+    )
+    by_here rest (inr apart) (inl here) = absurd (apart (sym here))
+    by_here rest (inr apart) (inr later) =
+        let past : list_all (is_passed size blocks disk (areas_in size volume)) (x ∷ earlier volume.place xs) ≡ true =
+        ap (λ b. list_all (is_passed size blocks disk (areas_in size volume)) (cond b [] (x ∷ earlier volume.place xs))) (sym (ne_eqb x volume.place apart)) ∙ e in
+        let parts = and_parts (is_passed size blocks disk (areas_in size volume) x) (list_all (is_passed size blocks disk (areas_in size volume)) (earlier volume.place xs)) past in
+        let next = rest parts.1 later in
+        let here = passed_stays x (sub x (inl refl)) parts.0 in (
+          ap (λ o. or_else o (volume_in size blocks other xs)) (none_there x here) ∙ next.0,
+          ap (λ b. list_all (is_passed size blocks other (areas_in size volume)) (cond b [] (x ∷ earlier volume.place xs))) (ne_eqb x volume.place apart) ∙ and_from _ _ here next.1,
+        )
+
+  -- the other disk has the same volume, and is accepted with it
+  pub frame : ((n : ℕ) → n < blocks → length (other n) ≡ size) → IsAccepted size blocks other volume
+  unfolding is_lawful are_places_lawful
+  frame full =
+      let r = reached (places blocks) (λ n i. i) known.passed known.member in
+      record {
+        large = given.large;
+        small = given.small;
+        full = full;
+        is = r.0;
+        accepted = and_from _ _ known.profile (and_from _ _ (and_from _ _ known.lawful (and_from _ _ known.outside r.1)) known.writable);
+      }
+
+  outside_of : (n : ℕ) → is_eligible (areas_in size volume) n ≡ true → is_outside (areas_in size volume) n ≡ true
+  unfolding is_eligible
+  outside_of n e = (and_parts (leb 256 n) (is_outside (areas_in size volume) n) e).1
+
+  place_of : (m : ℕ) → IsIn m (eligible size blocks volume) → IsIn m (places blocks) × (is_eligible (areas_in size volume) m ≡ true)
+  unfolding eligible
+  place_of m i = let k = kept_in (is_eligible (areas_in size volume)) (ascending_places blocks) m i in (from_ascending blocks m k.0, k.1)
+
+  -- and the rules hold of both or of none
+  pub same_anchors : anchors_hold size blocks disk volume ≡ anchors_hold size blocks other volume
+  unfolding anchors_hold
+  same_anchors =
+      let same : (m : ℕ) → IsIn m (eligible size blocks volume) → is_good volume.anchor m (disk m) ≡ is_good volume.anchor m (other m) =
+      λ m i. let k = place_of m i in ap (is_good volume.anchor m) (agree.at_places m k.0 (outside_of m k.1)) in
+      ap (λ xs. leb 2 (length xs) || list_all (λ m. is_good volume.anchor m (disk m)) (eligible size blocks volume))
+      (same_filter (λ m. is_good volume.anchor m (disk m)) (λ m. is_good volume.anchor m (other m)) (eligible size blocks volume) same)
+      ∙ ap (λ b. leb 2 (length (filter (λ m. is_good volume.anchor m (other m)) (eligible size blocks volume))) || b)
+      (same_all (λ m. is_good volume.anchor m (disk m)) (λ m. is_good volume.anchor m (other m)) (eligible size blocks volume) same)
+
+  pub same_sequences : sequences_hold size disk volume ≡ sequences_hold size other volume
+  unfolding sequences_hold
+  same_sequences = ap (agrees volume.list) (by_side known.side) where
+    by_side : IsMain size disk volume ⊎ IsReserve size disk volume
+        → sequence_at size disk (limit_of size volume.anchor) (other_of volume) ≡ sequence_at size other (limit_of size volume.anchor) (other_of volume)
+    by_side (inl m) =
+        ap (λ w. sequence_at size disk (limit_of size volume.anchor) (extent_of (opposite w) volume.anchor)) m.0
+        ∙ same_sequence size disk other (limit_of size volume.anchor) volume.anchor.reserve agree.reserve
+        ∙ ap (λ w. sequence_at size other (limit_of size volume.anchor) (extent_of (opposite w) volume.anchor)) (sym m.0)
+    by_side (inr m) =
+        ap (λ w. sequence_at size disk (limit_of size volume.anchor) (extent_of (opposite w) volume.anchor)) m.0
+        ∙ same_sequence size disk other (limit_of size volume.anchor) volume.anchor.main agree.main
+        ∙ ap (λ w. sequence_at size other (limit_of size volume.anchor) (extent_of (opposite w) volume.anchor)) (sym m.0)

@@ -1,0 +1,35 @@
+use Rattle.std.proofs.Common.{sym, subst, Option, Some}
+use Rattle.udf_volume_model.specs.Kept.{Volume, volume_of}
+use Rattle.udf_volume_model.specs.Accepted.{mended}
+use Rattle.udf_volume_model.specs.Same.{IsSameVolume}
+use Rattle.udf_volume_laws.proofs.Final.{mended_image}
+use Rattle.udf_volume_laws.proofs.Twice.{stays, mended_twice}
+use Rattle.udf_volume_laws.proofs.Difference.{length_kept, broken_differs, no_broken_rule}
+use Rattle.udf_volume_laws.proofs.mend_law.Goals as goal
+
+pub returns-clause-same_length : goal.returns-clause-same_length
+returns-clause-same_length c = length_kept
+
+pub returns-clause-accepted : goal.returns-clause-accepted
+returns-clause-accepted c = λ size image large a. (mended_image size image large a).accepted
+
+pub returns-clause-unbroken : goal.returns-clause-unbroken
+returns-clause-unbroken c = λ size image large a. (mended_image size image large a).rules
+
+pub returns-clause-volume : goal.returns-clause-volume
+returns-clause-volume c = λ size image large a.
+    let m = mended_image size image large a in
+    subst (λ (o : Option Volume). IsSameVolume size o (volume_of size (mended size image))) (sym m.before_volume)
+    (subst (λ (o : Option Volume). IsSameVolume size (Some m.before_is) o) (sym m.after_volume) m.same)
+
+pub returns-clause-again : goal.returns-clause-again
+returns-clause-again c = mended_twice
+
+pub returns-clause-still : goal.returns-clause-still
+returns-clause-still c = stays
+
+pub returns-clause-differs : goal.returns-clause-differs
+returns-clause-differs c = broken_differs
+
+pub returns-clause-alike : goal.returns-clause-alike
+returns-clause-alike c = no_broken_rule

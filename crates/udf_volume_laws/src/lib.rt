@@ -1,0 +1,104 @@
+//! The laws of volumes: what prevailing means, that findings come exactly where a rule is broken, and what the mends of
+//! anchors and sequences keep and give. Each law is the contract of a function with an empty body. It stands on the
+//! definitions of volumes; the layers above cite the laws through the same definitions.
+#![tactic(auto)]
+
+ghost use Rattle.std.specs.Prelude.{◌≡◌, ◌≤◌, ℕ, List, [], Some, None, length, slice_get, true, false};
+ghost use Rattle.udf_model.specs.Image.{block_of, blocks_in};
+ghost use Rattle.udf_volume_model.specs.Sequence.{Descriptor};
+ghost use Rattle.udf_volume_model.specs.Prevailing.{is_of, prevailing, prevailing_index, Prevails};
+ghost use Rattle.udf_volume_model.specs.Kept.{Volume, volume_of};
+ghost use Rattle.udf_volume_model.specs.Areas.{partition_area, covers};
+ghost use Rattle.udf_volume_model.specs.Rules.{findings, rules_hold};
+ghost use Rattle.udf_volume_model.specs.Order.{Ascends};
+ghost use Rattle.udf_volume_model.specs.Edits.{look, put_blocks, are_edits, is_off};
+ghost use Rattle.udf_volume_model.specs.Mended.{edits};
+ghost use Rattle.udf_volume_model.specs.Accepted.{is_accepted, mended, is_unbroken, difference, plan_of, is_sealed};
+ghost use Rattle.udf_volume_model.specs.Same.{IsSameVolume, is_read, IsUnmoved};
+ghost use Rattle.udf_volume_model.specs.Plans.{IsPlan};
+
+/// Of a kind and subject the descriptor prevails that has the highest sequence number, the earliest of equals; it is one,
+/// and there is none only where the list has no descriptor of that kind and subject.
+pub fn prevailing_law()
+    ensures index { (kind : ℕ) (subject : List ℕ) (list : List Descriptor) (index : ℕ) (descriptor : Descriptor)
+        → Prevails kind subject list index descriptor → prevailing_index kind subject list ≡ Some index }
+    ensures descriptor { (kind : ℕ) (subject : List ℕ) (list : List Descriptor) (index : ℕ) (descriptor : Descriptor)
+        → Prevails kind subject list index descriptor → prevailing kind subject list ≡ Some descriptor }
+    ensures only_index { (kind : ℕ) (subject : List ℕ) (list : List Descriptor) (index : ℕ)
+        → prevailing_index kind subject list ≡ Some index → (descriptor : Descriptor) × Prevails kind subject list index descriptor }
+    ensures only { (kind : ℕ) (subject : List ℕ) (list : List Descriptor) (descriptor : Descriptor)
+        → prevailing kind subject list ≡ Some descriptor → (index : ℕ) × Prevails kind subject list index descriptor }
+    ensures unique { (kind : ℕ) (subject : List ℕ) (list : List Descriptor) (index other : ℕ) (a b : Descriptor)
+        → Prevails kind subject list index a → Prevails kind subject list other b → (index ≡ other) × (a ≡ b) }
+    ensures none { (kind : ℕ) (subject : List ℕ) (list : List Descriptor) → prevailing kind subject list ≡ None
+        → (k : ℕ) (other : Descriptor) → slice_get list k ≡ Some other → is_of kind subject other ≡ false }
+{}
+
+/// Nothing is found exactly where no rule is broken, and findings stand in the order of rules, then of sectors.
+pub fn findings_law()
+    ensures unbroken { (size blocks : ℕ) (disk : ℕ → List ℕ) (volume : Volume) → rules_hold size blocks disk volume ≡ true
+        → findings size blocks disk volume ≡ [] }
+    ensures broken { (size blocks : ℕ) (disk : ℕ → List ℕ) (volume : Volume) → findings size blocks disk volume ≡ []
+        → rules_hold size blocks disk volume ≡ true }
+    ensures order { (size blocks : ℕ) (disk : ℕ → List ℕ) (volume : Volume) → Ascends (findings size blocks disk volume) }
+{}
+
+/// Blocks that are put stand there, the first of a sector; every other block and the length stay.
+pub fn edits_law()
+    ensures same_length { (size : ℕ) (image : List ℕ) (edits : List (ℕ × List ℕ)) → are_edits size (blocks_in size image) edits ≡ true
+        → length (put_blocks size edits image) ≡ length image }
+    ensures blocks { (size : ℕ) (image : List ℕ) (edits : List (ℕ × List ℕ)) (n : ℕ) → are_edits size (blocks_in size image) edits ≡ true
+        → block_of size (put_blocks size edits image) n ≡ look n edits (block_of size image n) }
+    ensures off { (n : ℕ) (edits : List (ℕ × List ℕ)) (block : List ℕ) → is_off n edits ≡ true → look n edits block ≡ block }
+{}
+
+/// The mended image of an accepted one is accepted, breaks no rule, and is the same volume; mending it again changes
+/// nothing. A broken rule makes a difference, and no broken rule none.
+pub fn mend_law()
+    ensures same_length { (size : ℕ) (image : List ℕ) → 512 ≤ size → length (mended size image) ≡ length image }
+    ensures accepted { (size : ℕ) (image : List ℕ) → 512 ≤ size → is_accepted size image ≡ true → is_accepted size (mended size image) ≡ true }
+    ensures unbroken { (size : ℕ) (image : List ℕ) → 512 ≤ size → is_accepted size image ≡ true → is_unbroken size (mended size image) ≡ true }
+    ensures volume { (size : ℕ) (image : List ℕ) → 512 ≤ size → is_accepted size image ≡ true
+        → IsSameVolume size (volume_of size image) (volume_of size (mended size image)) }
+    ensures again { (size : ℕ) (image : List ℕ) → 512 ≤ size → mended size (mended size image) ≡ mended size image }
+    ensures still { (size : ℕ) (image : List ℕ) → is_unbroken size image ≡ true → mended size image ≡ image }
+    ensures differs { (size : ℕ) (image : List ℕ) → 512 ≤ size → is_accepted size image ≡ true → is_unbroken size image ≡ false
+        → 1 ≤ length (difference size image (mended size image)) }
+    ensures alike { (size : ℕ) (image : List ℕ) → is_unbroken size image ≡ true → difference size image (mended size image) ≡ [] }
+{}
+
+/// What the mends write: the blocks of the edits, none of which is a block of the partition, a sealed one or one past the
+/// whole blocks of the image.
+pub fn written_law()
+    ensures blocks { (size : ℕ) (image : List ℕ) (volume : Volume) (n : ℕ) → 512 ≤ size → is_accepted size image ≡ true
+        → volume_of size image ≡ Some volume
+        → block_of size (mended size image) n ≡ look n (edits size (blocks_in size image) (block_of size image) volume) (block_of size image n) }
+    ensures partition { (size : ℕ) (image : List ℕ) (volume : Volume) (n : ℕ) → 512 ≤ size → is_accepted size image ≡ true
+        → volume_of size image ≡ Some volume → covers (partition_area volume.list) n ≡ true
+        → block_of size (mended size image) n ≡ block_of size image n }
+    ensures sealed { (size : ℕ) (image : List ℕ) (volume : Volume) (n : ℕ) → 512 ≤ size → is_accepted size image ≡ true
+        → volume_of size image ≡ Some volume → is_sealed volume n ≡ true
+        → block_of size (mended size image) n ≡ block_of size image n }
+    ensures past { (size : ℕ) (image : List ℕ) (n : ℕ) → 512 ≤ size → blocks_in size image ≤ n
+        → block_of size (mended size image) n ≡ block_of size image n }
+{}
+
+/// A volume, its acceptance and its rules are read from the blocks of both sequence extents and from the places outside
+/// its areas: an image that agrees there has the same, and so has the image with blocks put elsewhere.
+pub fn frame_law()
+    ensures agree { (size : ℕ) (image other : List ℕ) (volume : Volume) → 512 ≤ size → is_accepted size image ≡ true
+        → volume_of size image ≡ Some volume → length other ≡ length image
+        → ((n : ℕ) → is_read size (blocks_in size image) volume n ≡ true → block_of size other n ≡ block_of size image n)
+        → IsUnmoved size image other }
+    ensures elsewhere { (size : ℕ) (image : List ℕ) (volume : Volume) (edits : List (ℕ × List ℕ)) → 512 ≤ size → is_accepted size image ≡ true
+        → volume_of size image ≡ Some volume → are_edits size (blocks_in size image) edits ≡ true
+        → ((n : ℕ) → is_read size (blocks_in size image) volume n ≡ true → is_off n edits ≡ true)
+        → IsUnmoved size image (put_blocks size edits image) }
+{}
+
+/// The plan is the one list that is exactly the difference, and put on the image it gives the mended one.
+pub fn plan_law()
+    ensures exact { (size : ℕ) (image after : List ℕ) → IsPlan size image after (plan_of size image after) }
+    ensures one { (size : ℕ) (image after : List ℕ) (plan : List (ℕ × List ℕ)) → IsPlan size image after plan → plan ≡ plan_of size image after }
+    ensures applied { (size : ℕ) (image : List ℕ) → 512 ≤ size → put_blocks size (plan_of size image (mended size image)) image ≡ mended size image }
+{}

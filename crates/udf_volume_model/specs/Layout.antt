@@ -1,0 +1,61 @@
+-- The lawful layout of a volume with one map of type 1.
+use Rattle.std.specs.Prelude.{ℕ, Bool, true, ◌==◌, ◌&&◌, ◌||◌, ◌+◌, ◌/◌, ◌%◌, ◌^◌, nat_lt, nat_le, if◌then◌else◌, List, [], ◌∷◌, is_none}
+use Rattle.std.specs.List.{list_all}
+use Rattle.udf_volume_model.specs.Sequence.{Descriptor}
+use Rattle.udf_volume_model.specs.Prevailing.{number_in}
+use Rattle.udf_volume_model.specs.Anchor.{blocks_for, places, anchor_in}
+use Rattle.udf_volume_model.specs.Kept.{Volume}
+use Rattle.udf_volume_model.specs.Stated.{partition}
+use Rattle.udf_volume_model.specs.Areas.{Area, partition_area, areas_of, is_outside}
+
+-- An area of no blocks is apart from every other.
+unfoldable pub is_apart : Area → Area → Bool
+is_apart a b =
+    (a.count == 0) || ((b.count == 0) || (nat_le (a.start + a.count) b.start || nat_le (b.start + b.count) a.start))
+
+-- pairwise apart
+unfoldable pub are_apart : List Area → Bool
+are_apart [] = true
+are_apart (area ∷ areas) = list_all (is_apart area) areas && are_apart areas
+
+-- in an image of so many blocks, also where it has no blocks
+unfoldable pub is_inside : ℕ → Area → Bool
+is_inside blocks area = nat_le (area.start + area.count) blocks
+
+-- An extent of so many bytes from a block of a partition on lies in the partition, of so many blocks, and holds its space
+-- bitmap (4/14.12): 24 bytes, and a bit for each block.
+unfoldable pub is_bitmap : ℕ → ℕ → ℕ → ℕ → Bool
+is_bitmap size count bytes block = nat_le (block + blocks_for size bytes) count && nat_le (24 + (count + 7) / 8) bytes
+
+-- 4/14.3.2: the short allocation descriptor at 64 of the partition descriptor; its extent of length 0 is none
+unfoldable pub bitmap_bytes : List Descriptor → ℕ
+bitmap_bytes list = number_in 4 (partition list) 64 % 2 ^ 30
+
+unfoldable pub is_bitmap_lawful : ℕ → List Descriptor → Bool
+is_bitmap_lawful size list =
+    (bitmap_bytes list == 0)
+    || is_bitmap size (partition_area list).count (bitmap_bytes list) (number_in 4 (partition list) 68)
+
+-- The areas lie in the image and are pairwise apart, the partition starts above block 128, and the bitmap is lawful.
+unfoldable pub are_lawful : ℕ → ℕ → List Descriptor → List Area → Bool
+are_lawful size blocks list areas =
+    list_all (is_inside blocks) areas
+    && (are_apart areas && (nat_lt 128 (partition_area list).start && is_bitmap_lawful size list))
+
+-- the places before one
+unfoldable pub earlier : ℕ → List ℕ → List ℕ
+earlier at [] = []
+earlier at (place ∷ rest) = if place == at then [] else place ∷ earlier at rest
+
+-- The kept anchor lies in none of the areas, and each place before it neither lies in one nor holds a whole anchor.
+unfoldable pub is_passed : ℕ → ℕ → (ℕ → List ℕ) → List Area → ℕ → Bool
+is_passed size blocks disk areas place = is_outside areas place && is_none (anchor_in size blocks place (disk place))
+
+unfoldable pub are_places_lawful : ℕ → ℕ → (ℕ → List ℕ) → ℕ → List Area → Bool
+are_places_lawful size blocks disk kept areas =
+    is_outside areas kept && list_all (is_passed size blocks disk areas) (earlier kept (places blocks))
+
+unfoldable pub is_lawful : ℕ → ℕ → (ℕ → List ℕ) → Volume → Bool
+is_lawful size blocks disk volume =
+    are_lawful size blocks volume.list (areas_of size volume.anchor volume.list)
+    && are_places_lawful size blocks disk volume.place (areas_of size volume.anchor volume.list)

@@ -1,0 +1,15 @@
+pub mod Sequence
+pub mod Prevailing
+pub mod Anchor
+pub mod Kept
+pub mod Stated
+pub mod Areas
+pub mod Rules
+pub mod Profile
+pub mod Layout
+pub mod Edits
+pub mod Mended
+pub mod Accepted
+pub mod Same
+pub mod Order
+pub mod Plans

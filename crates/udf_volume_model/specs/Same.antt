@@ -1,0 +1,32 @@
+-- What two images have in common, and which sectors that is read from.
+use Rattle.std.specs.Prelude.{◌≡◌, ℕ, Bool, Option, Some, None, ◌==◌, ◌&&◌, ◌||◌, List}
+use Rattle.std.specs.List.{list_any}
+use Rattle.udf_volume_model.specs.Anchor.{places}
+use Rattle.udf_volume_model.specs.Kept.{Volume, volume_of}
+use Rattle.udf_volume_model.specs.Areas.{area_of, areas_of, covers, is_outside}
+use Rattle.udf_volume_model.specs.Accepted.{is_accepted, is_unbroken}
+
+-- Volumes of the same extents, areas and descriptors; the kept anchor may stand at another place, and the kept sequence in
+-- the other extent.
+pub record IsSame (size : ℕ) (before after : Volume) : Type 0 where
+  pub anchor : after.anchor ≡ before.anchor
+  pub list : after.list ≡ before.list
+  pub areas : areas_of size after.anchor after.list ≡ areas_of size before.anchor before.list
+
+abbrev pub IsSameVolume : ℕ → Option Volume → Option Volume → Type 0
+IsSameVolume size (Some before) (Some after) = IsSame size before after
+IsSameVolume size None after = ⊥
+IsSameVolume size (Some before) None = ⊥
+
+-- a volume, acceptance and the rules are read from the sectors of both sequence extents and from the places outside the areas
+unfoldable pub is_read : ℕ → ℕ → Volume → ℕ → Bool
+is_read size blocks volume n =
+    covers (area_of size volume.anchor.main) n
+    || (covers (area_of size volume.anchor.reserve) n
+    || (list_any (λ place. place == n) (places blocks) && is_outside (areas_of size volume.anchor volume.list) n))
+
+-- the other image has the same volume, is accepted, and breaks a rule exactly where the image does
+pub record IsUnmoved (size : ℕ) (image other : List ℕ) : Type 0 where
+  pub volume : volume_of size other ≡ volume_of size image
+  pub accepted : is_accepted size other ≡ is_accepted size image
+  pub unbroken : is_unbroken size other ≡ is_unbroken size image
