@@ -1,0 +1,83 @@
+-- A volume that was opened is that of the image, and what its fields tell.
+use Rattle.std.proofs.Common.{◌≡◌, ℕ, refl, ◌∙◌, ap, List, Bool, true, false, cond, Option, Some, None, Result, Ok, Err, ltb, length, ◌/◌}
+use Rattle.udf_model.specs.Image.{block_of, blocks_in}
+use Rattle.udf_volume_model.specs.Anchor.{Anchor, places}
+use Rattle.udf_volume_model.specs.Kept.{kept, other, limit_of, has_anchor, volume_of}
+use Rattle.udf_volume_model.specs.Kept as model
+use Rattle.udf_volume_model.specs.Stated.{logical, partition}
+use Rattle.udf_volume_model.specs.Areas.{areas_of, integrity_areas, integrity_extent, partition_area}
+use Rattle.udf_volume.specs.declared.missing.Missing.{Missing}
+use Rattle.udf_volume.specs.declared.missing.Missing.TheVariants as missing
+use Rattle.udf_volume.specs.declared.volume.Volume.{Volume}
+use Rattle.udf_volume.specs.Seen.{extent_seen}
+use Rattle.udf_volume.specs.Spans.{kept_span, other_span, limit_stated}
+use Rattle.udf_volume.specs.Areas.{anchor_stated, areas_stated}
+use Rattle.udf_volume.specs.Opened.{volume_by, refusal_of, by_refusal, accepted, by_volume, opened}
+
+-- the volume has the fields that are stated of a kept sequence of the image
+pub record Describes (size : ℕ) (image : List ℕ) (volume : Volume) (v : model.Volume) : Type 0 where
+  pub found : volume_of size image ≡ Some v
+  pub is : volume ≡ volume_by size (blocks_in size image) v (logical v.list) (partition v.list)
+
+by_refused : (refusal : Option Missing) (fields volume : Volume) → by_refusal refusal fields ≡ Ok volume → volume ≡ fields
+by_refused None fields volume e = cc
+by_refused (Some missing) fields volume e = cc
+
+ok_volume : (size blocks : ℕ) (disk : ℕ → List ℕ) (any : Bool) (found : Option model.Volume) (volume : Volume) → by_volume size blocks disk any found ≡ Ok volume
+    → (v : model.Volume) × (found ≡ Some v) × (volume ≡ volume_by size blocks v (logical v.list) (partition v.list))
+unfolding accepted
+ok_volume size blocks disk true None volume e = cc
+ok_volume size blocks disk false None volume e = cc
+ok_volume size blocks disk any (Some v) volume e =
+    (v, refl, by_refused (refusal_of size blocks disk v) (volume_by size blocks v (logical v.list) (partition v.list)) volume e)
+
+pub opened_ok : (size : ℕ) (image : List ℕ) (volume : Volume) → opened size image ≡ Ok volume → (v : model.Volume) × Describes size image volume v
+unfolding opened
+opened_ok size image volume = by_size (ltb 4294967295 (length image / size)) where
+  rest : Result Volume Missing
+  rest = by_volume size (blocks_in size image) (block_of size image) (has_anchor size (blocks_in size image) (block_of size image) (places (blocks_in size image))) (volume_of size image)
+
+  by_size : (b : Bool) → cond b (Err missing.TooLarge) rest ≡ Ok volume → (v : model.Volume) × Describes size image volume v
+  by_size true e = cc
+  by_size false e =
+      let found = ok_volume size (blocks_in size image) (block_of size image) _ (volume_of size image) volume e in
+      (found.0, record { found = found.1; is = found.2 })
+
+module _ (size : ℕ) (image : List ℕ) (volume : Volume) (v : model.Volume) (d : Describes size image volume v) where
+  pub size_is : volume.size ≡ size
+  unfolding volume_by
+  size_is = ap (λ (x : Volume). x.size) d.is
+
+  pub blocks_is : volume.blocks ≡ blocks_in size image
+  unfolding volume_by
+  blocks_is = ap (λ (x : Volume). x.blocks) d.is
+
+  pub anchor_is : anchor_stated volume ≡ v.anchor
+  unfolding volume_by
+  anchor_is = ap anchor_stated d.is
+
+  pub limit_is : limit_stated volume ≡ limit_of size v.anchor
+  unfolding volume_by limit_of
+  limit_is = ap limit_stated d.is
+
+  pub areas_is : areas_stated volume ≡ areas_of size v.anchor v.list
+  unfolding volume_by areas_of integrity_areas integrity_extent partition_area
+  areas_is = ap areas_stated d.is
+
+  by_kept : (w : model.Which) (extents : Anchor) → extent_seen (kept_span (volume_by size (blocks_in size image) (record v { which = w }) (logical v.list) (partition v.list)))
+      ≡ model.extent_of w v.anchor
+  unfolding volume_by
+  by_kept model.Main extents = refl
+  by_kept model.Reserve extents = refl
+
+  pub kept_is : extent_seen (kept_span volume) ≡ kept v
+  kept_is = ap (λ (x : Volume). extent_seen (kept_span x)) d.is ∙ by_kept v.which v.anchor
+
+  by_other : (w : model.Which) (extents : Anchor) → extent_seen (other_span (volume_by size (blocks_in size image) (record v { which = w }) (logical v.list) (partition v.list)))
+      ≡ model.extent_of (model.opposite w) v.anchor
+  unfolding volume_by
+  by_other model.Main extents = refl
+  by_other model.Reserve extents = refl
+
+  pub other_is : extent_seen (other_span volume) ≡ other v
+  other_is = ap (λ (x : Volume). extent_seen (other_span x)) d.is ∙ by_other v.which v.anchor

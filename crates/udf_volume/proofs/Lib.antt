@@ -1,0 +1,14 @@
+pub mod Gather
+pub mod Prevail
+pub mod Extents
+pub mod Listing
+pub mod Searching
+pub mod Opening
+pub mod Outside
+pub mod Places
+pub mod Agreeing
+pub mod Described
+pub mod KeptList
+pub mod Profiled
+pub mod Laying
+pub mod LaidOut

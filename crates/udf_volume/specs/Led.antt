@@ -1,0 +1,43 @@
+-- What the code found at the places of anchors, as the definitions have it.
+use Rattle.std.specs.Prelude.{◌≡◌, ℕ, ◌<◌, Bool, true, false, List, Option, Some, None, if◌then◌else◌}
+use Rattle.udf_volume_model.specs.Sequence.{Descriptor}
+use Rattle.udf_volume_model.specs.Anchor.{names_extents}
+use Rattle.udf_volume_model.specs.Kept.{Volume, is_complete, limit_of}
+use Rattle.udf_volume.specs.Seen.{anchor_seen, which_seen}
+use Rattle.udf_volume.specs.declared.sequence.DescriptorList.{DescriptorList}
+use Rattle.udf_volume.specs.declared.kept.Led.{Led}
+use Rattle.udf_volume.specs.declared.kept.Found.{Found}
+use Rattle.udf_volume.specs.declared.kept.Found.TheVariants.{Nothing, Unled, Kept}
+
+-- the descriptors of a list that no block spoils
+abbrev pub listed_in : DescriptorList → Option (List Descriptor)
+listed_in list = if list.is_spoilt then None else Some list.descriptors.items
+
+abbrev pub led_seen : Led → Volume
+led_seen led = record {
+  place = led.place;
+  anchor = anchor_seen led.anchor;
+  which = which_seen led.which;
+  list = led.descriptors.items;
+}
+
+-- what holds of every kept sequence, also over a bench that tells nothing
+pub record IsLed (size blocks : ℕ) (led : Led) : Type 0 where
+  pub place : led.place < blocks
+  pub extents : names_extents size blocks (anchor_seen led.anchor) ≡ true
+  pub complete : is_complete (limit_of size (anchor_seen led.anchor)) led.descriptors.items ≡ true
+
+abbrev pub Finds : Option Volume → Bool → Found → Type 0
+Finds volume any Nothing = (volume ≡ None) × (any ≡ false)
+Finds volume any Unled = (volume ≡ None) × (any ≡ true)
+Finds volume any (Kept led) = volume ≡ Some (led_seen led)
+
+abbrev pub FindsLawful : ℕ → ℕ → Found → Type 0
+FindsLawful size blocks Nothing = Unit {0}
+FindsLawful size blocks Unled = Unit {0}
+FindsLawful size blocks (Kept led) = IsLed size blocks led
+
+abbrev pub at_least_unled_of : Found → Found
+at_least_unled_of Nothing = Unled
+at_least_unled_of Unled = Unled
+at_least_unled_of (Kept led) = Kept led

@@ -1,0 +1,9 @@
+pub mod Causes
+pub mod Says
+pub mod Seen
+pub mod Best
+pub mod Led
+pub mod Opened
+pub mod Areas
+pub mod Spans
+pub mod Laid

@@ -1,0 +1,210 @@
+//! The kept anchor and the kept sequence: the first place with a whole anchor that leads to a whole sequence.
+ghost use Rattle.std.specs.Prelude.{◌≡◌, ◌+◌, ◌*◌, ◌≤◌, ◌<◌, ◌^◌, ℕ, length, IfOk, IfSome, IsErrOf, option_map, true};
+ghost use Rattle.std.specs.List.{AllByRecursion};
+ghost use Rattle.udf_model.specs.Image.{block_of};
+ghost use Rattle.udf_outside.specs.Files.{IsAttached};
+ghost use Rattle.udf_outside.specs.Stops.{bytes_of};
+ghost use Rattle.udf_outside.specs.Causes.{Rose};
+ghost use Rattle.udf_outside.specs.declared.bench.Role.TheVariants.{Image};
+ghost use Rattle.udf_volume_model.specs.Anchor.{is_extent, names_extents};
+ghost use Rattle.udf_volume_model.specs.Kept.{has_id, is_complete, whole_by, sequence_at, volume_at, volume_in, has_anchor};
+ghost use Rattle.udf_volume.specs.Seen.{extent_seen, anchor_seen};
+ghost use Rattle.udf_volume.specs.Led.{listed_in, led_seen, IsLed, Finds, FindsLawful, at_least_unled_of};
+
+use crate::anchor::{Anchor, anchor_of, blocks_of};
+use crate::descriptor::{LOGICAL_VOLUME, PARTITION, PRIMARY};
+use crate::{Descriptor, DescriptorList, Which, WorkStop, read_descriptors};
+use std::alloc::Global;
+use udf_field::Span;
+use udf_outside::{Bench, read_block};
+
+/// The kept anchor, and the descriptors of the sequence to which it leads.
+#[derive(Debug, Drop)]
+pub(crate) struct Led {
+    pub place: u32,
+    pub anchor: Anchor,
+    pub which: Which,
+    pub descriptors: Vec<Descriptor>,
+}
+
+/// What the places of anchors hold.
+#[derive(Debug, Drop)]
+pub(crate) enum Found {
+    /// No whole anchor.
+    Nothing,
+    /// Whole anchors, none of which leads to a whole sequence.
+    Unled,
+    Kept(Led),
+}
+
+impl Found {
+    fn at_least_unled(self) -> Found
+        ensures { result ≡ at_least_unled_of self }
+    {
+        match self {
+            Found::Nothing => Found::Unled,
+            Found::Unled => Found::Unled,
+            Found::Kept(led) => Found::Kept(led),
+        }
+    }
+}
+
+#[tactic(auto, unfolding(udf_volume_model::specs::Kept::has_id))]
+pub(crate) fn has_descriptor(list: &[Descriptor], id: u16) -> bool
+    ensures { result ≡ has_id id list.now }
+{
+    list.iter().any(|descriptor| descriptor.id() == id)
+}
+
+#[tactic(auto, unfolding(udf_volume_model::specs::Kept::is_complete))]
+pub(crate) fn is_complete_list(list: &[Descriptor], limit: u32) -> bool
+    ensures { result ≡ is_complete limit list.now }
+{
+    list.len() < limit as usize
+        && has_descriptor(list, PRIMARY)
+        && has_descriptor(list, PARTITION)
+        && has_descriptor(list, LOGICAL_VOLUME)
+}
+
+// The descriptors of a list that no block spoils and that is complete.
+fn whole_list(list: DescriptorList, limit: u32) -> Option<Vec<Descriptor>>
+    ensures whole { option_map (λ v. v.items) result ≡ whole_by limit (listed_in list) }
+    ensures complete { IfSome result (λ v. is_complete limit v.items ≡ true) }
+{
+    if list.is_spoilt {
+        return None;
+    }
+    if is_complete_list(&list.descriptors, limit) {
+        Some(list.descriptors)
+    } else {
+        None
+    }
+}
+
+// The descriptors of an extent's sequence, where it is whole.
+#[tactic(auto, using(crate::proofs::Extents::fits, crate::proofs::Extents::in_numbers, crate::proofs::Listing::sequence_is))]
+fn whole_sequence<B: Bench>(
+    alloc: Global,
+    bench: &mut B,
+    size: u32,
+    blocks: u32,
+    span: Span,
+    limit: u32,
+    block: &mut [u8],
+) -> Result<Option<Vec<Descriptor>>, WorkStop>
+    requires attached { IsAttached Image (B.files bench.old) }
+    requires within { blocks * size ≤ (B.files bench.old).image.size }
+    requires room { length block.old ≡ size }
+    requires large { 512 ≤ size }
+    requires extent { is_extent size blocks (extent_seen span) ≡ true }
+    ensures sequence { B.tells → IfOk result (λ found. option_map (λ v. v.items) found
+        ≡ sequence_at size (block_of size (bytes_of Image (B.held bench.old))) limit (extent_seen span)) }
+    ensures complete { IfOk result (λ found. IfSome found (λ v. is_complete limit v.items ≡ true)) }
+    ensures files { B.files bench.new ≡ B.files bench.old }
+    ensures held { B.held bench.new ≡ B.held bench.old }
+    ensures later { B.faults bench.old ≤ B.faults bench.new }
+    ensures fault { IsErrOf result WorkStop.Fault → Rose (B.faults bench.old) (B.faults bench.new) }
+{
+    let count = blocks_of(size, span.length);
+    let list = read_descriptors(alloc, bench, size, span.start, count, block)?;
+    Ok(whole_list(list, limit))
+}
+
+// The sequence to which an anchor leads, the main one first.
+#[tactic(auto, using(crate::proofs::Extents::both, crate::proofs::Listing::main_led, crate::proofs::Listing::reserve_led, crate::proofs::Listing::not_led))]
+fn led_by<B: Bench>(
+    alloc: Global,
+    bench: &mut B,
+    size: u32,
+    blocks: u32,
+    place: u32,
+    anchor: Anchor,
+    block: &mut [u8],
+) -> Result<Option<Led>, WorkStop>
+    requires attached { IsAttached Image (B.files bench.old) }
+    requires within { blocks * size ≤ (B.files bench.old).image.size }
+    requires room { length block.old ≡ size }
+    requires large { 512 ≤ size }
+    requires place { place < blocks }
+    requires extents { names_extents size blocks (anchor_seen anchor) ≡ true }
+    ensures led { B.tells → IfOk result (λ led. option_map led_seen led
+        ≡ volume_at size (block_of size (bytes_of Image (B.held bench.old))) place (Some (anchor_seen anchor))) }
+    ensures lawful { IfOk result (λ led. IfSome led (IsLed size blocks)) }
+    ensures files { B.files bench.new ≡ B.files bench.old }
+    ensures held { B.held bench.new ≡ B.held bench.old }
+    ensures later { B.faults bench.old ≤ B.faults bench.new }
+    ensures fault { IsErrOf result WorkStop.Fault → Rose (B.faults bench.old) (B.faults bench.new) }
+{
+    let limit = blocks_of(size, anchor.main.length).min(blocks_of(size, anchor.reserve.length));
+    if let Some(descriptors) = whole_sequence(
+        alloc,
+        bench,
+        size,
+        blocks,
+        anchor.main,
+        limit,
+        block,
+    )? {
+        return Ok(Some(Led {
+            place,
+            anchor,
+            which: Which::Main,
+            descriptors,
+        }));
+    }
+    if let Some(descriptors) = whole_sequence(
+        alloc,
+        bench,
+        size,
+        blocks,
+        anchor.reserve,
+        limit,
+        block,
+    )? {
+        return Ok(Some(Led {
+            place,
+            anchor,
+            which: Which::Reserve,
+            descriptors,
+        }));
+    }
+    Ok(None)
+}
+
+/// What these places of an image of so many blocks hold. `block` is lent and has the block size.
+#[tactic(auto, using(crate::proofs::Searching::none_left, crate::proofs::Searching::no_anchor, crate::proofs::Searching::leads, crate::proofs::Searching::leads_not))]
+pub(crate) fn search<B: Bench>(
+    alloc: Global,
+    bench: &mut B,
+    size: u32,
+    blocks: u32,
+    places: &[u32],
+    block: &mut [u8],
+) -> Result<Found, WorkStop>
+    requires attached { IsAttached Image (B.files bench.old) }
+    requires within { blocks * size ≤ (B.files bench.old).image.size }
+    requires room { length block.old ≡ size }
+    requires large { 512 ≤ size }
+    requires inside { AllByRecursion (λ at. at < blocks) places.now }
+    ensures found { B.tells → IfOk result (Finds
+        (volume_in size blocks (block_of size (bytes_of Image (B.held bench.old))) places.now)
+        (has_anchor size blocks (block_of size (bytes_of Image (B.held bench.old))) places.now)) }
+    ensures lawful { IfOk result (FindsLawful size blocks) }
+    ensures files { B.files bench.new ≡ B.files bench.old }
+    ensures held { B.held bench.new ≡ B.held bench.old }
+    ensures later { B.faults bench.old ≤ B.faults bench.new }
+    ensures fault { IsErrOf result WorkStop.Fault → Rose (B.faults bench.old) (B.faults bench.new) }
+{
+    let Some((first, rest)) = places.split_first() else {
+        return Ok(Found::Nothing);
+    };
+    let place = *first;
+    read_block(bench, size, place, block)?;
+    let Some(anchor) = anchor_of(block, place, size, blocks) else {
+        return search(alloc, bench, size, blocks, rest, block);
+    };
+    if let Some(led) = led_by(alloc, bench, size, blocks, place, anchor, block)? {
+        return Ok(Found::Kept(led));
+    }
+    Ok(search(alloc, bench, size, blocks, rest, block)?.at_least_unled())
+}

@@ -1,0 +1,28 @@
+//! The volume of an image: its anchors, the kept descriptor sequence, and what the prevailing descriptors state.
+//! Towards the layer above: `open_volume` answers the first refusal that applies, or a `Volume` whose every field is what
+//! the descriptors state; `read_descriptors` gives the list of an extent. It stands on fields and tags, on the bench, and
+//! on the definitions of volumes.
+#![tactic(auto)]
+
+mod anchor;
+mod area;
+mod descriptor;
+mod highest;
+mod kept;
+mod layout;
+mod missing;
+mod open;
+mod profile;
+mod rules;
+mod sequence;
+mod volume;
+
+pub use anchor::places_of;
+pub use area::{Area, areas_of, eligible_places, lies_outside};
+pub use descriptor::Descriptor;
+pub use highest::{prevailing, prevailing_index};
+pub use missing::{LayerStop, Missing, ProfileItem, WorkStop};
+pub use open::open_volume;
+pub use rules::{bad_places, is_good, sequences_agree};
+pub use sequence::{DescriptorList, read_descriptors, read_sequence};
+pub use volume::{MetaMap, Shape, SparingMap, Upper, Volume, Which};

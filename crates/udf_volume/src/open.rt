@@ -1,0 +1,221 @@
+//! A volume from an image: the first refusal that applies, or what the prevailing descriptors state.
+ghost use Rattle.std.specs.Prelude.{◌≡◌, ◌+◌, ◌*◌, ◌/◌, ◌≤◌, ◌<◌, ◌^◌, ℕ, length as length_of, IfOk, IfSome, IsErrOf, if◌then◌else◌, Some, None, slice_index, take, drop};
+ghost use Rattle.udf_model.specs.Image.{block_of};
+ghost use Rattle.udf_outside.specs.Files.{IsAttached};
+ghost use Rattle.udf_outside.specs.Stops.{bytes_of};
+ghost use Rattle.udf_outside.specs.Causes.{Rose};
+ghost use Rattle.udf_outside.specs.declared.bench.Role.TheVariants.{Image};
+ghost use Rattle.udf_volume_model.specs.Kept.{kept};
+ghost use Rattle.udf_volume_model.specs.Stated.{is_built};
+ghost use Rattle.udf_volume.specs.Laid.{IsLaidOut};
+ghost use Rattle.udf_volume.specs.Led.{IsLed, led_seen};
+ghost use Rattle.udf_volume.specs.Opened.{volume_by, stated_in, sector_in, bitmap_in, is_guarded, accepted, opened, Answers, IsBounded};
+
+use crate::anchor::places_of;
+use crate::descriptor::{IMPLEMENTATION_USE, LOGICAL_VOLUME, PARTITION, PRIMARY, TAG};
+use crate::kept::{Found, Led, search};
+use crate::layout::is_lawful;
+use crate::profile::{has_one_map, map_number, unlike_profile};
+use crate::{
+    Descriptor, LayerStop, Missing, ProfileItem, Shape, Upper, Volume, Which, prevailing,
+    prevailing_index,
+};
+use std::alloc::Global;
+use udf_field::{Fields, Short, Span};
+use udf_outside::Bench;
+
+/// The most blocks of an image.
+const MOST_BLOCKS: u64 = 4_294_967_295;
+
+// Offsets in the logical volume descriptor (ECMA-167 3/10.6), behind its tag.
+const FILE_SET: usize = 248 - TAG;
+
+const REVISION: usize = 240 - TAG;
+
+const PROTECTION: usize = 242 - TAG;
+
+const INTEGRITY: usize = 432 - TAG;
+
+// Offsets in the partition descriptor (3/10.5), and in the header in its contents use (4/14.3), behind its tag.
+const SPACE_BITMAP: usize = 64 - TAG;
+
+const ACCESS: usize = 184 - TAG;
+
+const START: usize = 188 - TAG;
+
+const LENGTH: usize = 192 - TAG;
+
+/// The bits of hard and soft write protection (UDF 2.1.5.3).
+const PROTECTION_BITS: u8 = 3;
+
+/// The identifier of the implementation use descriptor with the volume's names (UDF 2.2.7).
+const LV_INFO: [u8; 23] = *b"*UDF LV Info\0\0\0\0\0\0\0\0\0\0\0";
+
+#[tactic(auto, unfolding(crate::specs::Opened::bitmap_in))]
+fn bitmap(partition: &Fields<'_>) -> Option<Short>
+    requires { 496 ≤ length_of partition.now }
+    ensures { result ≡ bitmap_in partition.now }
+{
+    let bitmap = partition.short_at(SPACE_BITMAP);
+    if bitmap.length == 0 {
+        None
+    } else {
+        Some(bitmap)
+    }
+}
+
+// The extent of the kept sequence.
+fn kept_extent(led: &Led) -> Span
+    ensures { result ≡ record { length = (kept (led_seen led.now)).bytes; start = (kept (led_seen led.now)).start } }
+{
+    match led.which {
+        Which::Main => led.anchor.main,
+        Which::Reserve => led.anchor.reserve,
+    }
+}
+
+// The sector of the descriptor that prevails in a kept sequence.
+#[tactic(auto, unfolding(crate::specs::Opened::sector_in))]
+fn sector_of(led: &Led, kind: u16, subject: &[u8]) -> Option<u32>
+    requires { (kept (led_seen led.now)).start + length_of led.now.descriptors.items < 2 ^ 32 }
+    ensures { result ≡ sector_in (led_seen led.now) kind subject.now }
+{
+    let index = prevailing_index(&led.descriptors, kind, subject)?;
+    Some(kept_extent(led).start + index as u32)
+}
+
+// Whether a bit of write protection stands.
+#[tactic(auto, unfolding(crate::specs::Opened::is_guarded))]
+fn is_protected(flags: u8) -> bool
+    ensures { result ≡ is_guarded flags }
+{
+    flags & PROTECTION_BITS != 0
+}
+
+// What a kept sequence states, by its prevailing logical volume and partition descriptors.
+#[tactic(auto, using(crate::proofs::Extents::descriptors_in), unfolding(crate::specs::Opened::volume_by))]
+fn volume_of(
+    led: &Led,
+    size: u32,
+    blocks: u32,
+    logical: &Descriptor,
+    partition: &Descriptor,
+) -> Volume
+    requires { (kept (led_seen led.now)).start + length_of led.now.descriptors.items < 2 ^ 32 }
+    ensures { result ≡ volume_by size blocks (led_seen led.now) logical.now.body partition.now.body }
+{
+    let logical_fields = logical.fields();
+    let partition_fields = partition.fields();
+    Volume {
+        size,
+        blocks,
+        anchor: led.place,
+        main: led.anchor.main,
+        reserve: led.anchor.reserve,
+        kept: led.which,
+        count: led.descriptors.len() as u32,
+        pvd: sector_of(led, PRIMARY, &[]).unwrap_or(0),
+        lvd: sector_of(led, LOGICAL_VOLUME, &[]).unwrap_or(0),
+        pd: sector_of(led, PARTITION, map_number(logical)).unwrap_or(0),
+        info: sector_of(led, IMPLEMENTATION_USE, &LV_INFO),
+        shape: Shape {
+            base: 0,
+            sparing: None,
+            upper: Upper::Absent,
+        },
+        start: partition_fields.u32_at(START),
+        length: partition_fields.u32_at(LENGTH),
+        bitmap: bitmap(&partition_fields),
+        integrity: logical_fields.span_at(INTEGRITY),
+        file_set: logical_fields.long_at(FILE_SET),
+        revision: logical_fields.u16_at(REVISION),
+        access: partition_fields.u32_at(ACCESS),
+        guarded: is_protected(logical_fields.u8_at(PROTECTION)),
+    }
+}
+
+// What a kept sequence states, where its maps are built.
+#[tactic(auto, using(crate::proofs::Opening::not_logical, crate::proofs::Opening::not_mapped, crate::proofs::Opening::not_described, crate::proofs::Opening::described))]
+fn stated(led: &Led, size: u32, blocks: u32) -> Option<Volume>
+    requires { IsLed size blocks led.now }
+    ensures value { result ≡ stated_in size blocks (led_seen led.now) }
+    ensures bounds { IfSome result (IsBounded size blocks) }
+{
+    let list = led.descriptors.as_slice();
+    let logical = prevailing(list, LOGICAL_VOLUME, &[])?;
+    if !has_one_map(&logical.fields()) {
+        return None;
+    }
+    let partition = prevailing(list, PARTITION, map_number(logical))?;
+    Some(volume_of(led, size, blocks, logical, partition))
+}
+
+// The volume of a kept sequence, or the first refusal of it.
+#[tactic(auto, using(crate::proofs::Opening::unlike, crate::proofs::Opening::unstated, crate::proofs::Opening::unlaid, crate::proofs::Opening::accepted_by))]
+fn accept<B: Bench>(
+    alloc: Global,
+    bench: &mut B,
+    size: u32,
+    blocks: u32,
+    led: &Led,
+    block: &mut [u8],
+) -> Result<Volume, LayerStop>
+    requires attached { IsAttached Image (B.files bench.old) }
+    requires within { blocks * size ≤ (B.files bench.old).image.size }
+    requires room { length_of block.old ≡ size }
+    requires large { 512 ≤ size }
+    requires led { IsLed size blocks led.now }
+    ensures answers { B.tells → Answers
+        (accepted size blocks (block_of size (bytes_of Image (B.held bench.old))) (led_seen led.now)) result }
+    ensures bounds { IfOk result (IsBounded size blocks) }
+    ensures areas { IfOk result IsLaidOut }
+    ensures files { B.files bench.new ≡ B.files bench.old }
+    ensures held { B.held bench.new ≡ B.held bench.old }
+    ensures later { B.faults bench.old ≤ B.faults bench.new }
+    ensures fault { IsErrOf result LayerStop.Fault → Rose (B.faults bench.old) (B.faults bench.new) }
+{
+    if let Some(item) = unlike_profile(&led.descriptors, size) {
+        return Err(LayerStop::Missing(Missing::Profile(item)));
+    }
+    let Some(volume) = stated(led, size, blocks) else {
+        return Err(LayerStop::Missing(Missing::Profile(ProfileItem::Unbuilt)));
+    };
+    if is_lawful(alloc, bench, &volume, block)? {
+        Ok(volume)
+    } else {
+        Err(LayerStop::Missing(Missing::Layout))
+    }
+}
+
+/// The volume of an image. `size` is the block size, at least 512, and `length` the image's length in bytes.
+#[tactic(auto, using(crate::proofs::Opening::whole_blocks))]
+pub fn open_volume<B: Bench>(
+    alloc: Global,
+    bench: &mut B,
+    size: u32,
+    length: u64,
+) -> Result<Volume, LayerStop>
+    requires attached { IsAttached Image (B.files bench.old) }
+    requires large { 512 ≤ size }
+    requires sized { length ≡ (B.files bench.old).image.size }
+    ensures answers { B.tells → Answers (opened size (bytes_of Image (B.held bench.old))) result }
+    ensures bounds { IfOk result (IsBounded size (length / size)) }
+    ensures areas { IfOk result IsLaidOut }
+    ensures files { B.files bench.new ≡ B.files bench.old }
+    ensures held { B.held bench.new ≡ B.held bench.old }
+    ensures later { B.faults bench.old ≤ B.faults bench.new }
+    ensures fault { IsErrOf result LayerStop.Fault → Rose (B.faults bench.old) (B.faults bench.new) }
+{
+    let whole = length / size as u64;
+    if whole > MOST_BLOCKS {
+        return Err(LayerStop::Missing(Missing::TooLarge));
+    }
+    let blocks = whole as u32;
+    let places = places_of(alloc, blocks)?;
+    let mut block = vec![in alloc; 0u8; size as usize]?;
+    match search(alloc, bench, size, blocks, &places, &mut block)? {
+        Found::Nothing => Err(LayerStop::Missing(Missing::Anchor)),
+        Found::Unled => Err(LayerStop::Missing(Missing::Sequence)),
+        Found::Kept(led) => accept(alloc, bench, size, blocks, &led, &mut block),
+    }
+}
