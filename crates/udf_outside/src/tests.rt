@@ -390,6 +390,8 @@ fn what_is_no_file(rt: HostRuntime) -> Result<(), Fail> {
     if full.attach(Role::Image, "/dev/full", Access::Write).is_ok() {
         assert_eq!(rt; full.write_at(Role::Image, 0, b"abc"), Err(Failed));
         assert_eq!(rt; full.length(Role::Image), Ok(0));
+        // what is no file on a disk has no sync
+        assert_eq!(rt; full.sync(Role::Image), Err(Failed));
     }
     Ok(())
 }

@@ -16,7 +16,7 @@ pub record IsFar (a b : Area) (n : ℕ) : Type 0 where
   pub first : (n < a.start) ⊎ (a.start + a.count ≤ n)
   pub second : (n < b.start) ⊎ (b.start + b.count ≤ n)
 
-uncovered : (area : Area) (n : ℕ) → not (covers area n) ≡ true → (n < area.start) ⊎ (area.start + area.count ≤ n)
+pub uncovered : (area : Area) (n : ℕ) → not (covers area n) ≡ true → (n < area.start) ⊎ (area.start + area.count ≤ n)
 unfolding covers
 uncovered area n e = by_test (and_cases (leb area.start n) (ltb n (area.start + area.count)) (not-true _ e)) where
   by_test : (leb area.start n ≡ false) ⊎ (ltb n (area.start + area.count) ≡ false) → (n < area.start) ⊎ (area.start + area.count ≤ n)
@@ -31,7 +31,7 @@ far size anchor list n e =
     let reserve = and_parts (not (covers (area_of size anchor.reserve) n)) (list_all (λ area. not (covers area n)) (further_areas size list)) main.1 in
     record { first = uncovered _ n main.0; second = uncovered _ n reserve.0 }
 
-apart : (a b : Area) → is_apart a b ≡ true → 0 < a.count → 0 < b.count → (a.start + a.count ≤ b.start) ⊎ (b.start + b.count ≤ a.start)
+pub apart : (a b : Area) → is_apart a b ≡ true → 0 < a.count → 0 < b.count → (a.start + a.count ≤ b.start) ⊎ (b.start + b.count ≤ a.start)
 unfolding is_apart
 apart a b e some more = by_first (or_cases (eqb a.count 0) ((eqb b.count 0) || (leb (a.start + a.count) b.start || leb (b.start + b.count) a.start)) e) where
   by_third : (leb (a.start + a.count) b.start ≡ true) ⊎ (leb (b.start + b.count) a.start ≡ true) → (a.start + a.count ≤ b.start) ⊎ (b.start + b.count ≤ a.start)

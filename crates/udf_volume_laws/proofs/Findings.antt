@@ -10,11 +10,11 @@ use Rattle.udf_volume_model.specs.Rules.{ascending_places, is_eligible, eligible
 use Rattle.udf_volume_model.specs.Order.{AscendsFrom, Ascends}
 
 -- numbers ascend, from one on
-abbrev Climbs : ℕ → List ℕ → Type 0
+abbrev pub Climbs : ℕ → List ℕ → Type 0
 Climbs from [] = Unit {0}
 Climbs from (x ∷ xs) = (from < x) × Climbs x xs
 
-abbrev Rises : List ℕ → Type 0
+abbrev pub Rises : List ℕ → Type 0
 Rises [] = Unit {0}
 Rises (x ∷ xs) = Climbs x xs
 
@@ -40,7 +40,7 @@ filter_rises test (x ∷ xs) c = by_test (filter_climbs test x xs c) (test x) wh
   by_test rest true = rest
   by_test rest false = rises_from x (filter test xs) rest
 
-places_rise : (blocks : ℕ) → Rises (ascending_places blocks)
+pub places_rise : (blocks : ℕ) → Rises (ascending_places blocks)
 unfolding ascending_places
 places_rise blocks = by_zero (eqb blocks 0) where
   by_fifth : (b : Bool) → eqb blocks 513 ≡ b → 513 ≤ blocks → Rises (cond b (256 ∷ 512 ∷ []) (256 ∷ (blocks - 257) ∷ (blocks - 1) ∷ []))
