@@ -1,0 +1,40 @@
+-- The extents of a volume have room for the kept descriptors and the block that ends them.
+use Rattle.std.proofs.Common.{◌≡◌, ℕ, ◌+◌, ◌*◌, ◌/◌, ◌%◌, ◌<◌, ◌≤◌, arith}
+use Rattle.std.proofs.lemmas.Nat.{div-add-mod'}
+use Rattle.std.proofs.Math.Nat.{mul-le-mul_right}
+use Rattle.udf_volume_model.specs.Anchor.{blocks_for}
+use Rattle.udf_volume.proofs.Extents.{ends_in}
+use Rattle.udf_volume.specs.Seen.{extent_seen}
+use Rattle.udf_volume.specs.Spans.{span_by}
+use Rattle.udf_volume.specs.Opened.{IsBounded}
+use Rattle.udf_volume.specs.declared.volume.Volume.{Volume}
+use Rattle.udf_volume.specs.declared.volume.Which.{Which}
+use Rattle.udf_volume.specs.declared.volume.Which.TheVariants.{Main, Reserve}
+
+module _ (volume : Volume) (b : IsBounded volume.size volume.blocks volume) where
+  pub room : (w : Which) → (span_by w volume).start + blocks_for volume.size (span_by w volume).length ≤ volume.blocks
+  room Main = ends_in volume.size volume.blocks (extent_seen volume.main) b.main_inside
+  room Reserve = ends_in volume.size volume.blocks (extent_seen volume.reserve) b.reserve_inside
+
+  pub fits : (w : Which) → volume.count < blocks_for volume.size (span_by w volume).length
+  fits Main = omega (arith, b.short)
+  fits Reserve = omega (arith, b.short)
+
+  pub end_inside : (w : Which) → (span_by w volume).start + volume.count < volume.blocks
+  end_inside w = omega (arith, room w, fits w)
+
+  pub run_inside : (w : Which) (start count : ℕ) → start ≡ (span_by w volume).start → count ≡ blocks_for volume.size (span_by w volume).length
+      → start + count ≤ volume.blocks
+  run_inside w start count s c = omega (arith, room w)
+
+  pub bytes_inside : (w : Which) (start count whole : ℕ) → start ≡ (span_by w volume).start → count ≡ blocks_for volume.size (span_by w volume).length
+      → volume.blocks * volume.size ≤ whole → (start + count) * volume.size ≤ whole
+  bytes_inside w start count whole s c h = omega (arith, mul-le-mul_right volume.size (run_inside w start count s c))
+
+  pub last_inside : (w : Which) (start : ℕ) → start ≡ (span_by w volume).start → start + volume.count < volume.blocks
+  last_inside w start s = omega (arith, end_inside w)
+
+-- the blocks of a volume lie in the image
+pub fits_image : (volume : Volume) (length : ℕ) → volume.size ≡ 512 → volume.blocks ≡ length / 512 → volume.blocks * volume.size ≤ length
+fits_image volume length size blocks =
+    let e : length / 512 * 512 + length % 512 ≡ length = div-add-mod' length 512 in rw (size, blocks) (omega arith)

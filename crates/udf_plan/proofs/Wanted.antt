@@ -1,0 +1,137 @@
+-- The mended image, sector by sector, in the terms in which a plan is made.
+use Rattle.std.proofs.Common.{◌≡◌, ◌⊎◌, inl, inr, ℕ, zero, suc, ◌+◌, ◌<◌, ◌≤◌, arith, sym, ◌∙◌, ap, subst, List, [], ◌++◌, length, Bool, true, false, cond, not, Some}
+use Rattle.std.proofs.lemmas.Bool.{cases_Bool}
+use Rattle.udf_model.specs.Tag.{relocated}
+use Rattle.udf_model.specs.Image.{block_of, blocks_in}
+use Rattle.udf_volume_model.specs.Kept.{Volume, kept, other, volume_of}
+use Rattle.udf_volume_model.specs.Rules.{ascending_places, is_eligible, eligible, is_good, bad_of, anchors_hold, sequences_hold}
+use Rattle.udf_volume_model.specs.Edits.{look}
+use Rattle.udf_volume_model.specs.Mended.{logical_block, end_block, copies, sequence_edits, anchor_edits, edits}
+use Rattle.udf_volume_model.specs.Accepted.{is_accepted, mended}
+use Rattle.udf_volume_laws.proofs.Members.{IsIn, kept_in}
+use Rattle.udf_volume_laws.proofs.Puts.{IsOff, off, off_both, look_both, look_here, look_past, chosen, chosen_off}
+use Rattle.udf_volume_laws.proofs.Copies.{copies_below, copies_above}
+use Rattle.udf_volume_laws.proofs.After.{IsAccepted, areas_in, put_there, good_stays, outside_of}
+use Rattle.udf_volume_laws.proofs.Final.{held_of}
+use Rattle.udf_volume_laws.proofs.Difference.{mended_block}
+use Rattle.udf_plan.specs.Changes.{anchor_after}
+
+-- a copy, block by block
+look_copy : (size : ℕ) (disk : ℕ → List ℕ) (like : List ℕ) (count from to i : ℕ) (base : List ℕ) → i < count
+    → look (to + i) (copies size disk like from to count) base ≡ relocated (to + i) (disk (from + i))
+unfolding copies
+look_copy size disk like zero from to i base h = absurd (omega arith)
+look_copy size disk like (suc count) from to zero base h =
+    let t : to + 0 ≡ to = omega arith in
+    let f : from + 0 ≡ from = omega arith in
+    look_here (to + 0) to (relocated to (disk from)) (copies size disk like (from + 1) (to + 1) count) base t
+    ∙ ap (λ n. relocated n (disk from)) (sym t) ∙ ap (λ n. relocated (to + 0) (disk n)) (sym f)
+look_copy size disk like (suc count) from to (suc i) base h =
+    let t : to + suc i ≡ to + 1 + i = omega arith in
+    let f : from + 1 + i ≡ from + suc i = omega arith in
+    look_past (to + suc i) to (relocated to (disk from)) (copies size disk like (from + 1) (to + 1) count) base (λ e. omega arith)
+    ∙ ap (λ n. look n (copies size disk like (from + 1) (to + 1) count) base) t
+    ∙ look_copy size disk like count (from + 1) (to + 1) i base (omega arith)
+    ∙ ap (λ n. relocated n (disk (from + 1 + i))) (sym t) ∙ ap (λ n. relocated (to + suc i) (disk n)) f
+
+look_end : (size : ℕ) (disk : ℕ → List ℕ) (like : List ℕ) (count from to : ℕ) (base : List ℕ)
+    → look (to + count) (copies size disk like from to count) base ≡ end_block size (to + count) (disk (from + count)) like
+unfolding copies
+look_end size disk like zero from to base =
+    let t : to + 0 ≡ to = omega arith in
+    let f : from + 0 ≡ from = omega arith in
+    look_here (to + 0) to (end_block size to (disk from) like) [] base t
+    ∙ ap (λ n. end_block size n (disk from) like) (sym t) ∙ ap (λ n. end_block size (to + 0) (disk n) like) (sym f)
+look_end size disk like (suc count) from to base =
+    let t : to + suc count ≡ to + 1 + count = omega arith in
+    let f : from + 1 + count ≡ from + suc count = omega arith in
+    look_past (to + suc count) to (relocated to (disk from)) (copies size disk like (from + 1) (to + 1) count) base (λ e. omega arith)
+    ∙ ap (λ n. look n (copies size disk like (from + 1) (to + 1) count) base) t
+    ∙ look_end size disk like count (from + 1) (to + 1) base
+    ∙ ap (λ n. end_block size n (disk (from + 1 + count)) like) (sym t) ∙ ap (λ n. end_block size (to + suc count) (disk n) like) f
+
+module _ (size : ℕ) (image : List ℕ) (volume : Volume) (large : 512 ≤ size) (accepted : is_accepted size image ≡ true) (is : volume_of size image ≡ Some volume) where
+  abbrev disk : ℕ → List ℕ
+  disk = block_of size image
+
+  abbrev blocks : ℕ
+  blocks = blocks_in size image
+
+  abbrev final : ℕ → List ℕ
+  final n = block_of size (mended size image) n
+
+  held : IsAccepted size (blocks_in size image) (block_of size image) volume
+  held = held_of size image volume large accepted is
+
+  by_edits : (n : ℕ) → final n ≡ look n (edits size blocks disk volume) (disk n)
+  by_edits n = mended_block size image volume n large accepted is
+
+  -- a ruled place, where the rule on anchors is broken
+  pub place_final : anchors_hold size blocks disk volume ≡ false → (n : ℕ) → IsIn n (eligible size blocks volume)
+      → anchor_after disk volume.anchor (disk volume.place) n ≡ final n
+  unfolding eligible
+  place_final broken n i = by_good (cases_Bool (is_good volume.anchor n (disk n))) where
+    member : IsIn n (ascending_places (blocks_in size image)) × (is_eligible (areas_in size volume) n ≡ true)
+    member = kept_in (is_eligible (areas_in size volume)) (ascending_places (blocks_in size image)) n i
+
+    by_good : (is_good volume.anchor n (block_of size image n) ≡ true) ⊎ (is_good volume.anchor n (block_of size image n) ≡ false)
+        → anchor_after (block_of size image) volume.anchor (block_of size image volume.place) n ≡ block_of size (mended size image) n
+    by_good (inl good) =
+        ap (λ b. cond b (block_of size image n) (relocated n (block_of size image volume.place))) good
+        ∙ sym (by_edits n
+        ∙ good_stays size (blocks_in size image) (block_of size image) volume (held_of size image volume large accepted is) n
+        (outside_of size (blocks_in size image) (block_of size image) volume (held_of size image volume large accepted is) n member.1) good)
+    by_good (inr bad) =
+        ap (λ b. cond b (block_of size image n) (relocated n (block_of size image volume.place))) bad
+        ∙ sym (by_edits n
+        ∙ put_there size (blocks_in size image) (block_of size image) volume (held_of size image volume large accepted is) broken n member.0 member.1 bad)
+
+  -- a copied block, where the rule on sequences is broken
+  by_sequence : sequences_hold size disk volume ≡ false → (n : ℕ)
+      → final n ≡ look n (copies size disk (logical_block disk volume) (kept volume).start (other volume).start (length volume.list)) (look n (anchor_edits size blocks disk volume) (disk n))
+  unfolding edits sequence_edits
+  by_sequence broken n =
+      by_edits n ∙ look_both n (sequence_edits size disk volume) (anchor_edits size blocks disk volume) (disk n)
+      ∙ ap (λ b. look n (cond b [] (copies size disk (logical_block disk volume) (kept volume).start (other volume).start (length volume.list))) (look n (anchor_edits size blocks disk volume) (disk n))) broken
+
+  pub copy_final : sequences_hold size disk volume ≡ false → (i : ℕ) → i < length volume.list
+      → final ((other volume).start + i) ≡ relocated ((other volume).start + i) (disk ((kept volume).start + i))
+  copy_final broken i h =
+      by_sequence broken ((other volume).start + i)
+      ∙ look_copy size disk (logical_block disk volume) (length volume.list) (kept volume).start (other volume).start i _ h
+
+  pub end_final : sequences_hold size disk volume ≡ false
+      → final ((other volume).start + length volume.list)
+      ≡ end_block size ((other volume).start + length volume.list) (disk ((kept volume).start + length volume.list)) (logical_block disk volume)
+  end_final broken =
+      by_sequence broken ((other volume).start + length volume.list)
+      ∙ look_end size disk (logical_block disk volume) (length volume.list) (kept volume).start (other volume).start _
+
+  -- every other block
+  sequence_none : (n : ℕ) → (sequences_hold size disk volume ≡ true) ⊎ ((n < (other volume).start) ⊎ ((other volume).start + length volume.list < n))
+      → IsOff n (sequence_edits size disk volume)
+  unfolding sequence_edits
+  sequence_none n (inl holds) =
+      subst (λ (b : Bool). IsOff n (cond b [] (copies size disk (logical_block disk volume) (kept volume).start (other volume).start (length volume.list)))) (sym holds) tt
+  sequence_none n (inr apart) = by_rule (sequences_hold size (block_of size image) volume) apart where
+    by_rule : (b : Bool) → (n < (other volume).start) ⊎ ((other volume).start + length volume.list < n)
+        → IsOff n (cond b [] (copies size (block_of size image) (logical_block (block_of size image) volume) (kept volume).start (other volume).start (length volume.list)))
+    by_rule true h = tt
+    by_rule false (inl l) = copies_below size (block_of size image) (logical_block (block_of size image) volume) (length volume.list) (kept volume).start (other volume).start n l
+    by_rule false (inr l) = copies_above size (block_of size image) (logical_block (block_of size image) volume) (length volume.list) (kept volume).start (other volume).start n l
+
+  anchors_none : (n : ℕ) → (anchors_hold size blocks disk volume ≡ true) ⊎ (IsIn n (eligible size blocks volume) → ⊥) → IsOff n (anchor_edits size blocks disk volume)
+  unfolding anchor_edits
+  anchors_none n (inl holds) =
+      subst (λ (b : Bool). IsOff n (cond b [] (chosen (λ place. relocated place (disk volume.place)) (bad_of disk volume (eligible size blocks volume))))) (sym holds) tt
+  anchors_none n (inr apart) = by_rule (anchors_hold size (blocks_in size image) (block_of size image) volume) where
+    by_rule : (b : Bool) → IsOff n (cond b [] (chosen (λ place. relocated place (block_of size image volume.place)) (bad_of (block_of size image) volume (eligible size (blocks_in size image) volume))))
+    by_rule true = tt
+    by_rule false = chosen_off (λ place. relocated place (block_of size image volume.place)) (bad_of (block_of size image) volume (eligible size (blocks_in size image) volume)) n
+        (λ i. apart (kept_in (λ place. not (is_good volume.anchor place (block_of size image place))) (eligible size (blocks_in size image) volume) n i).0)
+
+  pub off_final : (n : ℕ) → (sequences_hold size disk volume ≡ true) ⊎ ((n < (other volume).start) ⊎ ((other volume).start + length volume.list < n))
+      → (anchors_hold size blocks disk volume ≡ true) ⊎ (IsIn n (eligible size blocks volume) → ⊥) → final n ≡ disk n
+  unfolding edits
+  off_final n s a =
+      by_edits n ∙ off n (sequence_edits size disk volume ++ anchor_edits size blocks disk volume) (disk n) (off_both n _ _ (sequence_none n s) (anchors_none n a))

@@ -1,0 +1,4 @@
+pub mod Planned
+pub mod Recorded
+pub mod Changes
+pub mod Stated

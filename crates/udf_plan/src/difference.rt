@@ -1,0 +1,35 @@
+//! A block of a plan, where it differs from the image's.
+ghost use Rattle.std.specs.Prelude.{◌≡◌, ◌<◌, ◌++◌, ◌∷◌, [], length, OnOk, true};
+ghost use Rattle.std.specs.Str.{bytes_eq};
+ghost use Rattle.udf_plan.specs.Planned.{are_below};
+ghost use Rattle.udf_plan.specs.Changes.{changes};
+
+use crate::{NoMemory, Plan};
+
+fn is_same(now: &[u8], wanted: &[u8]) -> bool
+    ensures { result ≡ bytes_eq now.now wanted.now }
+{
+    now == wanted
+}
+
+/// Adds a wanted block to a plan, where the image's block of that sector is another.
+#[tactic(auto, using(crate::proofs::Changing::nothing_added, crate::proofs::Changing::one_added))]
+pub(crate) fn add_difference(
+    plan: &mut Plan,
+    sector: u32,
+    now: &[u8],
+    wanted: &[u8],
+) -> Result<(), NoMemory>
+    requires sized { length wanted.now ≡ plan.old.size }
+    requires above { are_below sector plan.old.blocks ≡ true }
+    requires below { sector < 4294967295 }
+    ensures { OnOk result (plan.new ≡ record plan.old {
+      blocks = plan.old.blocks ++ changes (λ _. now.now) (λ _. wanted.now) (sector ∷ []);
+    }) }
+{
+    if is_same(now, wanted) {
+        return Ok(());
+    }
+    plan.push(sector, wanted)?;
+    Ok(())
+}

@@ -1,0 +1,18 @@
+//! What a repair writes: a plan is the blocks in which the mended image differs from the image, by ascending sectors.
+//! Towards the layer above: `plan_volume` is exactly that difference for the rules on anchors and sequences, and for every
+//! bench its sectors lie in the image and are no block of the kept descriptors. It stands on the volume and its laws.
+#![tactic(auto)]
+
+mod anchors;
+mod difference;
+mod plan;
+mod sequence;
+mod terminator;
+#[cfg(test)]
+mod tests;
+mod volume;
+
+pub use plan::Plan;
+pub use udf_outside::NoMemory;
+pub use udf_volume::WorkStop;
+pub use volume::plan_volume;
