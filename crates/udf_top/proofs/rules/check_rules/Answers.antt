@@ -1,0 +1,17 @@
+use Rattle.std.proofs.Common.{ap, ◌∙◌, List, ◌++◌}
+use Rattle.udf_outside.specs.Stops.{Held, bytes_of}
+use Rattle.udf_outside.specs.declared.bench.Role.TheVariants.{Image}
+use Rattle.udf_top.specs.declared.finding.Finding.{Finding}
+use Rattle.udf_top.specs.Reported.{anchors_reported, sequences_reported}
+use Rattle.udf_top.proofs.Reported.{found_all}
+use Rattle.udf_top.proofs.rules.check_rules.Goals as goal
+
+pub returns-clause-found : goal.returns-clause-found
+returns-clause-found g c = λ tells.
+    let image = bytes_of Image (g.B.Bench.held c.args.bench.now) in
+    c.in_ok-check_sequences.ensures.found tells
+    ∙ ap (λ (h : Held). c.check_anchors.new.findings ++ sequences_reported c.args.volume.now (bytes_of Image h)) c.in_ok-check_anchors.ensures.held
+    ∙ ap (λ (l : List Finding). l ++ sequences_reported c.args.volume.now image)
+    (c.in_ok-check_anchors.ensures.found tells
+    ∙ ap (λ (l : List Finding). l ++ anchors_reported c.args.volume.now image) c.none-findings.ensures)
+    ∙ found_all image c.args.volume.now (c.requires.opened tells)

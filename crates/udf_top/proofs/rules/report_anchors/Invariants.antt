@@ -1,0 +1,8 @@
+use Rattle.std.proofs.Common.{◌≡◌, ◌++◌, take, map, length, ◌-◌}
+use Rattle.udf_top.specs.declared.finding.Place.TheVariants.{Sector}
+use Rattle.udf_top.proofs.rules.report_anchors.Given as goal
+
+abbrev pub invariant-loop-place : goal.invariant-loop-place
+invariant-loop-place l = l.findings ≡ l.initial.findings
+    ++ map (λ place. record { rule = 2; place = Sector place; first = length l.eligible - length l.initial.bad; second = length l.eligible })
+    (take l.place-index l.bad)

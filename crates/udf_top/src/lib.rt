@@ -1,0 +1,20 @@
+//! The top calls of the tools, over a bench and a sink: the words of a command line, what an image lacks, the rules, and
+//! the lines that are printed. Towards the programs: `run_udffsck` answers an outcome and has put exactly its lines;
+//! `status` is the number with which a program ends. It stands on volumes and on the outside.
+#![tactic(auto)]
+
+mod finding;
+mod outcome;
+mod report;
+mod rules;
+mod text;
+mod udffsck;
+mod words;
+
+pub use finding::{Finding, Findings, Place};
+pub use outcome::{Cause, Outcome, status};
+pub use report::report_line;
+pub use udffsck::run_udffsck;
+
+#[cfg(test)]
+mod tests;
