@@ -1,0 +1,17 @@
+pub mod Calls
+pub mod Fronts
+pub mod Puts
+pub mod States
+pub mod Gates
+pub mod Logging
+pub mod Writing
+pub mod Sealing
+pub mod Reading
+pub mod Logged
+pub mod Lawful
+pub mod Applying
+pub mod Turns
+pub mod Finding
+pub mod Clashes
+pub mod Planning
+pub mod Placed

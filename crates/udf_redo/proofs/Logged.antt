@@ -1,0 +1,100 @@
+-- What stands in the side file once a log is written behind a closed gate.
+use Rattle.std.proofs.Common.{◌≡◌, ◌<◌, ◌≤◌, ⊎_elim, ℕ, ◌+◌, ◌*◌, ◌/◌, ◌^◌, ◌==◌, true, ◌||◌, List, ◌++◌, length, drop, refl, sym, ◌∙◌, ap, subst, arith, Ok}
+use Rattle.std.specs.List.{flat_map, All}
+use Rattle.std.proofs.lemmas.Slice.Eq.{bytes_eq-Decides}
+use Rattle.std.proofs.lemmas.Bool.{and_from, eq-eqb, eqb-true, or_cases, le-leb, lt-ltb}
+use Rattle.std.proofs.Math.Nat.{mul-le-mul_right, div-mul-le_self}
+use Rattle.sha2.specs.Sha256.{sha256, digest_bytes}
+use Rattle.udf_outside.specs.Stops.{put}
+use Rattle.udf_redo.specs.Log.{Edit}
+use Rattle.udf_volume.specs.Spans.{kept_span}
+use Rattle.udf_volume.specs.declared.volume.Volume.{Volume}
+use Rattle.udf_redo.specs.declared.head.LogHead.{LogHead}
+use Rattle.udf_redo.specs.declared.side.SideState.TheVariants.{Closed}
+use Rattle.udf_redo.specs.Log.{gate, head_in, records_of, is_size, is_head, are_lawful, is_log_of, sealed_in, state_of, head_bytes, record_bytes, opened}
+use Rattle.udf_redo.specs.Settled.{IsOpenLog}
+use Rattle.udf_redo.specs.Sealing.{head_for}
+use Rattle.udf_redo.specs.Front.{IsShut}
+use Rattle.udf_redo.proofs.States.{opens_state, state_closed}
+use Rattle.udf_redo.proofs.Reading.{Numbers, Blocks, Fits, laid, head_back, plan_back, grammar_back, put_laid, laid_long}
+
+module _ (head : LogHead) (edits : List Edit) (fits : Fits head) (count : head.records ≡ length edits) (blocks : Blocks head.size edits) (numbers : Numbers edits) where
+  module _ (side new : List ℕ) (shut : IsShut side) (is : new ≡ put side 9 (head_bytes head ++ flat_map record_bytes edits)) where
+    abbrev tail : List ℕ
+    tail = drop (9 + length (head_bytes head ++ flat_map record_bytes edits)) side
+
+    new_laid : new ≡ laid (gate side) head edits tail
+    new_laid = is ∙ put_laid side head edits shut.long shut.named
+
+    pub head_new : head_in new ≡ head
+    head_new = ap (λ (l : List ℕ). head_in l) new_laid ∙ head_back (gate side) head edits tail fits
+
+    pub records_new : records_of new ≡ edits
+    records_new = ap (λ (l : List ℕ). records_of l) new_laid ∙ plan_back (gate side) head edits tail fits count blocks numbers
+
+    pub closed_new : state_of new ≡ Ok Closed
+    closed_new = ap (λ (l : List ℕ). state_of l) new_laid ∙ state_closed (laid (gate side) head edits tail) (laid_long (gate side) head edits tail) refl shut.not_open
+
+    pub open_new : (image : List ℕ) → is_head head ≡ true → are_lawful head 0 edits ≡ true → is_log_of head image ≡ true → IsOpenLog (opened new) image
+    open_new image lawful sectors of =
+        let file = laid 0x4F head edits tail in
+        let reads : head_in file ≡ head = head_back 0x4F head edits tail fits in
+        let log : IsOpenLog file image = record {
+          lawful = opens_state file (record {
+            long = laid_long 0x4F head edits tail;
+            named = refl;
+            gated = refl;
+            lawful = grammar_back 0x4F head edits tail fits count blocks numbers lawful sectors;
+          });
+          same_image = ap (λ (h : LogHead). is_log_of h image) reads ∙ of;
+        } in
+        subst (λ (l : List ℕ). IsOpenLog l image) (sym (ap (λ (l : List ℕ). opened l) new_laid)) log
+
+length_digest : (bytes : List ℕ) → length (sha256 bytes) ≡ 32
+unfolding sha256 digest_bytes
+length_digest bytes = refl
+
+-- one of the four sizes
+pub size_cases : (size : ℕ) → is_size size ≡ true → (512 ≤ size) × (size ≤ 4096)
+unfolding is_size
+size_cases size test =
+    ⊎_elim (λ e. let is = eqb-true size 512 e in (omega arith, omega arith))
+    (λ rest. ⊎_elim (λ e. let is = eqb-true size 1024 e in (omega arith, omega arith))
+    (λ rest'. ⊎_elim (λ e. let is = eqb-true size 2048 e in (omega arith, omega arith)) (λ e. let is = eqb-true size 4096 e in (omega arith, omega arith))
+    (or_cases (size == 2048) (size == 4096) rest'))
+    (or_cases (size == 1024) ((size == 2048) || (size == 4096)) rest))
+    (or_cases (size == 512) ((size == 1024) || ((size == 2048) || (size == 4096))) test)
+
+module _ (volume : Volume) (image : List ℕ) (edits : List Edit) (size : is_size volume.size ≡ true) (sealed : 1 ≤ volume.count) (inside : (kept_span volume).start + volume.count ≤ volume.blocks)
+    (range : volume.blocks < 2 ^ 32) (some : 1 ≤ length edits) (few : length edits < 2 ^ 32) where
+  abbrev head : LogHead
+  head = head_for volume image (length edits)
+
+  pub fits_for : Fits head
+  fits_for = record {
+    size = omega (arith, (size_cases volume.size size).1);
+    blocks = range;
+    first = omega arith;
+    sealed = omega arith;
+    seal = length_digest _;
+    records = few;
+  }
+
+  pub head_for_lawful : is_head head ≡ true
+  unfolding is_head
+  head_for_lawful =
+      and_from _ _ size (and_from _ _ (lt-ltb 0 volume.count (omega arith)) (and_from _ _ (le-leb ((kept_span volume).start + volume.count) volume.blocks inside) (lt-ltb 0 (length edits) (omega arith))))
+
+  pub of_for : length image / volume.size ≡ volume.blocks → is_log_of head image ≡ true
+  unfolding is_log_of sealed_in
+  of_for blocks = and_from _ _ (eq-eqb (length image / volume.size) volume.blocks blocks) ((bytes_eq-Decides head.seal head.seal).1 refl)
+
+  pub numbers_for : All (λ edit. edit.0 < volume.blocks) edits → Numbers edits
+  numbers_for below = λ k d lt. let h = below k d lt in omega arith
+
+-- so many blocks lie in an image of that many
+pub blocks_inside : (bytes size blocks count : ℕ) → bytes / size ≡ blocks → count ≤ blocks → count * size ≤ bytes
+blocks_inside bytes size blocks count is le =
+    let less : count * size ≤ blocks * size = mul-le-mul_right size le in
+    let within : blocks * size ≤ bytes = subst (λ (n : ℕ). n * size ≤ bytes) is (div-mul-le_self bytes size) in
+    omega arith
