@@ -28,4 +28,6 @@ pub use stop::{Clash, RedoStop};
 pub use written::write_log;
 
 #[cfg(test)]
+mod log_tests;
+#[cfg(test)]
 mod tests;
