@@ -103,6 +103,20 @@ fresh; patch 100 0 003; check 'a volume descriptor pointer' 4 'udffsck: a.img: r
 fresh; patch 99 440 002; patch 1010 440 002; check 'maps of type 2' 4 'udffsck: a.img: refused, Profile Unbuilt'
 fresh; patch 98 56 010; check 'a space table' 4 'udffsck: a.img: refused, Profile SpaceTables'
 fresh; patch 98 192 357; patch 1009 192 357; check 'partition of 751 blocks' 4 'udffsck: a.img: refused, Layout'
+fresh; patch 99 444 007; check 'main map names another partition' 4 'udffsck: a.img: refused, Profile Unbuilt'
+fresh; patch 98 188 000; check 'partition from the anchor on' 4 'udffsck: a.img: refused, Layout'
+fresh; patch 98 69 003; check 'bitmap past the partition' 4 'udffsck: a.img: refused, Layout'
+fresh; patch 98 64 165; check 'bitmap of 117 bytes' 4 'udffsck: a.img: refused, Layout'
+
+fresh; patch 1023 28 356; check 'last anchor names another reserve extent' 4 "V2 -:1023 1 2
+$broken"
+fresh; copy 256 767; patch 767 12 377 002; check 'anchor inside the partition' 0 "$clean"
+fresh; patch 1007 60 003; check 'reserve primary says otherwise' 4 "V3 -:1007 5 5
+$broken"
+fresh; patch 1007 6 011; check 'reserve tag of another serial number' 0 "$clean"
+fresh; patch 1007 12 001 000; patch 1008 12 002 000; check 'reserve tags at other locations' 0 "$clean"
+fresh; copy 98 101; byte 101 16 011; patch 101 184 003; check 'main has a later partition descriptor' 4 "V3 -:1007 5 6
+$broken"
 
 rm -f a.img; check 'a file that is not there' 8 ''
 mkdir a.img; check 'a directory' 8 ''; rmdir a.img
