@@ -12,3 +12,4 @@ pub mod KeptList
 pub mod Profiled
 pub mod Laying
 pub mod LaidOut
+pub mod Protected

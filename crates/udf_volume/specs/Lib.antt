@@ -7,3 +7,4 @@ pub mod Opened
 pub mod Areas
 pub mod Spans
 pub mod Laid
+pub mod Writable

@@ -35,6 +35,8 @@ pub enum Missing {
     Profile(ProfileItem),
     /// The areas of the volume do not lie as they must.
     Layout,
+    /// The volume is not to be written, which a repair would do.
+    WriteProtected,
 }
 
 /// Why work ended.

@@ -18,7 +18,7 @@ use Rattle.udf_volume_laws.proofs.Puts.{AreWithin, chosen, chosen_within, all_le
 use Rattle.udf_volume_laws.proofs.Within.{block_ends, both_within, copies_within}
 use Rattle.udf_volume_laws.proofs.Led.{IsSequence}
 use Rattle.udf_volume_laws.proofs.After.{IsAccepted, Facts, facts, whole, bad_place}
-use Rattle.udf_volume_laws.proofs.Law.{IsMended, mends, volume_after}
+use Rattle.udf_volume_laws.proofs.Law.{IsMended, StandsEarlier, mends, volume_after}
 
 pub block_length : (size : ℕ) (image : List ℕ) (n : ℕ) → n < blocks_in size image → length (block_of size image n) ≡ size
 unfolding block_of
@@ -134,12 +134,13 @@ pub record IsMendedImage (size : ℕ) (image after : List ℕ) : Type 0 where
   pub after_is : Volume
   pub before_volume : volume_of size image ≡ Some before_is
   pub after_volume : volume_of size after ≡ Some after_is
-  pub same : IsSame size before_is after_is
+  pub same : IsSame size (blocks_in size image) before_is after_is
 
 finish : (size : ℕ) (image : List ℕ) (before : Volume) (after : List ℕ) (next : Volume) → volume_of size image ≡ Some before → length after ≡ length image → blocks_in size after < 2 ^ 32
+    → blocks_in size after ≡ blocks_in size image
     → IsMended size (blocks_in size after) before next (block_of size after) → IsMendedImage size image after
 unfolding volume_of is_accepted is_unbroken rules_hold
-finish size image before after next is long few m = record {
+finish size image before after next is long few count m = record {
   length_stays = long;
   accepted = and_from _ _ (lt-ltb _ _ few) (ap (is_accepted_by size (blocks_in size after) (block_of size after)) m.is ∙ m.accepted);
   rules = ap (is_unbroken_by size after) m.is ∙ and_from _ _ m.anchors m.sequences;
@@ -147,7 +148,13 @@ finish size image before after next is long few m = record {
   after_is = next;
   before_volume = is;
   after_volume = m.is;
-  same = record { anchor = m.same_anchor; list = m.same_list; areas = ap (λ anchor. areas_of size anchor next.list) m.same_anchor ∙ ap (areas_of size before.anchor) m.same_list };
+  same = record {
+    anchor = m.same_anchor;
+    list = m.same_list;
+    areas = ap (λ anchor. areas_of size anchor next.list) m.same_anchor ∙ ap (areas_of size before.anchor) m.same_list;
+    place = subst (λ (blocks : ℕ). StandsEarlier blocks before.place next.place) count m.place;
+    which = m.which;
+  };
 }
 
 pub mended_is : (size : ℕ) (image : List ℕ) (volume : Volume) → is_accepted size image ≡ true → volume_of size image ≡ Some volume
@@ -164,4 +171,4 @@ mended_image size image large e =
     let count = put_count size image volume held in
     subst (λ (after : List ℕ). IsMendedImage size image after) (sym (mended_is size image volume e parts.1.1))
     (finish size image volume (mended_by size image (Some volume)) (volume_after size (blocks_in size image) (block_of size image) volume held l.0)
-    parts.1.1 (put_long size image volume held) (omega (arith, count, parts.0)) l.1)
+    parts.1.1 (put_long size image volume held) (omega (arith, count, parts.0)) count l.1)

@@ -1,8 +1,8 @@
 -- The laws of the mends of anchors and sequences, on a disk.
-use Rattle.std.proofs.Common.{◌≡◌, ℕ, refl, sym, ◌∙◌, ap, subst, List, [], ◌∷◌, length, true, false, cond, ◌||◌, leb, Option, Some, None, inl, inr, ◌⊎◌}
+use Rattle.std.proofs.Common.{◌≡◌, ℕ, refl, sym, ◌∙◌, ap, subst, List, [], ◌∷◌, length, true, false, cond, ◌||◌, leb, eqb, Option, Some, None, inl, inr, ◌⊎◌}
 use Rattle.std.proofs.lemmas.Bool.{and_parts, and_from, le-leb, or_right, eq-eqb, ne_eqb, cases_Bool, cases_eq}
 use Rattle.std.specs.Prelude.{is_none}
-use Rattle.std.specs.List.{list_all, filter}
+use Rattle.std.specs.List.{list_all, list_any, filter}
 use Rattle.udf_volume_model.specs.Anchor.{Anchor, places, anchor_in}
 use Rattle.udf_volume_model.specs.Kept.{Volume, Main, led_from, volume_in, or_else}
 use Rattle.udf_volume_model.specs.Areas.{is_outside}
@@ -17,11 +17,17 @@ use Rattle.udf_volume_laws.proofs.Places.{IsAnchor, good_from}
 use Rattle.udf_volume_laws.proofs.Led.{leads_none}
 use Rattle.udf_volume_laws.proofs.After.{IsAccepted, Facts, facts, areas_in, reserve_agrees, outside_stays, anchor_there, place_leads as place_leads_of, leads_after as leads_after_of, outside_of as outside_by}
 
+-- where it stood, or at an earlier place
+abbrev pub StandsEarlier : ℕ → ℕ → ℕ → Type 0
+StandsEarlier blocks before after = (after ≡ before) ⊎ (list_any (λ place. eqb place after) (earlier before (places blocks)) ≡ true)
+
 -- what the laws say of a disk afterwards
 pub record IsMended (size blocks : ℕ) (before after : Volume) (disk : ℕ → List ℕ) : Type 0 where
   pub is : volume_in size blocks disk (places blocks) ≡ Some after
   pub same_anchor : after.anchor ≡ before.anchor
   pub same_list : after.list ≡ before.list
+  pub place : StandsEarlier blocks before.place after.place
+  pub which : after.which ≡ Main
   pub accepted : is_accepted_by size blocks disk (Some after) ≡ true
   pub anchors : anchors_hold size blocks disk after ≡ true
   pub sequences : sequences_hold size disk after ≡ true
@@ -123,6 +129,8 @@ module _ (size blocks : ℕ) (disk : ℕ → List ℕ) (volume : Volume) (given 
       is = reached (places blocks) (all_pass holds _ known.passed) known.member;
       same_anchor = refl;
       same_list = refl;
+      place = inl refl;
+      which = refl;
       accepted = accepts volume.place known.outside (all_pass holds _ known.passed);
       anchors = second_stays holds volume.place;
       sequences = third volume.place;
@@ -151,23 +159,33 @@ module _ (size blocks : ℕ) (disk : ℕ → List ℕ) (volume : Volume) (given 
         ap (λ ys. list_all (is_passed size blocks after (areas_in size volume)) (earlier x ys)) is
         ∙ ap (λ b. list_all (is_passed size blocks after (areas_in size volume)) (cond b [] (x ∷ earlier x xs))) (eq-eqb x x refl)
 
-    made : is_outside (areas_in size volume) x ≡ true → led_from size blocks after x ≡ Some (volume_after x) → IsMended size blocks volume (volume_after x) after
-    made out l = record {
+    made : StandsEarlier blocks volume.place x → is_outside (areas_in size volume) x ≡ true → led_from size blocks after x ≡ Some (volume_after x)
+        → IsMended size blocks volume (volume_after x) after
+    made stands out l = record {
       is = ap (volume_in size blocks after) is ∙ ap (λ o. or_else o (volume_in size blocks after xs)) l;
       same_anchor = refl;
       same_list = refl;
+      place = stands;
+      which = refl;
       accepted = accepts x out none_before;
       anchors = second_comes broken x;
       sequences = third x;
     }
 
+    -- the first place is before the kept one
+    first_earlier : (x ≡ volume.place → ⊥) → list_any (λ place. eqb place x) (earlier volume.place (places blocks)) ≡ true
+    first_earlier apart =
+        ap (λ ys. list_any (λ place. eqb place x) (earlier volume.place ys)) is
+        ∙ ap (λ b. list_any (λ place. eqb place x) (cond b [] (x ∷ earlier volume.place xs))) (ne_eqb x volume.place apart)
+        ∙ ap (λ b. b || list_any (λ place. eqb place x) (earlier volume.place xs)) (eq-eqb x x refl)
+
     by_here : (x ≡ volume.place) ⊎ (x ≡ volume.place → ⊥) → IsMended size blocks volume (volume_after x) after
     by_here (inl here) =
-        made (ap (is_outside (areas_in size volume)) here ∙ known.outside)
+        made (inl here) (ap (is_outside (areas_in size volume)) here ∙ known.outside)
         (ap (led_from size blocks after) here ∙ place_leads ∙ ap (λ n. Some (volume_after n)) (sym here))
     by_here (inr apart) =
         let e1 = first_eligible x xs high i apart e in
-        made (outside_by size blocks disk volume given x e1)
+        made (inr (first_earlier apart)) (outside_by size blocks disk volume given x e1)
         (leads_after x (anchor_there size blocks disk volume given broken x (to_ascending blocks x (subst (λ (ys : List ℕ). IsIn x ys) (sym is) (inl refl))) e1))
 
   -- THE LAW: afterwards the volume is the same but for where the kept anchor and sequence stand, it is accepted, and both rules hold

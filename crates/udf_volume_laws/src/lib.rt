@@ -52,14 +52,14 @@ pub fn edits_law()
     ensures off { (n : ℕ) (edits : List (ℕ × List ℕ)) (block : List ℕ) → is_off n edits ≡ true → look n edits block ≡ block }
 {}
 
-/// The mended image of an accepted one is accepted, breaks no rule, and is the same volume; mending it again changes
-/// nothing. A broken rule makes a difference, and no broken rule none.
+/// The mended image of an accepted one is accepted, breaks no rule, and is the same volume, whose kept anchor stands where it
+/// stood or at an earlier place and whose kept sequence is the main one; mending it again changes nothing. A broken rule makes a difference, and no broken rule none.
 pub fn mend_law()
     ensures same_length { (size : ℕ) (image : List ℕ) → 512 ≤ size → length (mended size image) ≡ length image }
     ensures accepted { (size : ℕ) (image : List ℕ) → 512 ≤ size → is_accepted size image ≡ true → is_accepted size (mended size image) ≡ true }
     ensures unbroken { (size : ℕ) (image : List ℕ) → 512 ≤ size → is_accepted size image ≡ true → is_unbroken size (mended size image) ≡ true }
     ensures volume { (size : ℕ) (image : List ℕ) → 512 ≤ size → is_accepted size image ≡ true
-        → IsSameVolume size (volume_of size image) (volume_of size (mended size image)) }
+        → IsSameVolume size (blocks_in size image) (volume_of size image) (volume_of size (mended size image)) }
     ensures again { (size : ℕ) (image : List ℕ) → 512 ≤ size → mended size (mended size image) ≡ mended size image }
     ensures still { (size : ℕ) (image : List ℕ) → is_unbroken size image ≡ true → mended size image ≡ image }
     ensures differs { (size : ℕ) (image : List ℕ) → 512 ≤ size → is_accepted size image ≡ true → is_unbroken size image ≡ false

@@ -1,22 +1,25 @@
 -- What two images have in common, and which sectors that is read from.
-use Rattle.std.specs.Prelude.{◌≡◌, ℕ, Bool, Option, Some, None, ◌==◌, ◌&&◌, ◌||◌, List}
+use Rattle.std.specs.Prelude.{◌≡◌, ◌⊎◌, ℕ, Bool, true, Option, Some, None, ◌==◌, ◌&&◌, ◌||◌, List}
 use Rattle.std.specs.List.{list_any}
 use Rattle.udf_volume_model.specs.Anchor.{places}
-use Rattle.udf_volume_model.specs.Kept.{Volume, volume_of}
+use Rattle.udf_volume_model.specs.Kept.{Volume, Main, volume_of}
 use Rattle.udf_volume_model.specs.Areas.{area_of, areas_of, covers, is_outside}
+use Rattle.udf_volume_model.specs.Layout.{earlier}
 use Rattle.udf_volume_model.specs.Accepted.{is_accepted, is_unbroken}
 
--- Volumes of the same extents, areas and descriptors; the kept anchor may stand at another place, and the kept sequence in
--- the other extent.
-pub record IsSame (size : ℕ) (before after : Volume) : Type 0 where
+-- Volumes of the same extents, areas and descriptors, in an image of so many blocks. The kept anchor stands where it stood or
+-- at an earlier place, and the kept sequence is the main one.
+pub record IsSame (size blocks : ℕ) (before after : Volume) : Type 0 where
   pub anchor : after.anchor ≡ before.anchor
   pub list : after.list ≡ before.list
   pub areas : areas_of size after.anchor after.list ≡ areas_of size before.anchor before.list
+  pub place : (after.place ≡ before.place) ⊎ (list_any (λ place. place == after.place) (earlier before.place (places blocks)) ≡ true)
+  pub which : after.which ≡ Main
 
-abbrev pub IsSameVolume : ℕ → Option Volume → Option Volume → Type 0
-IsSameVolume size (Some before) (Some after) = IsSame size before after
-IsSameVolume size None after = ⊥
-IsSameVolume size (Some before) None = ⊥
+abbrev pub IsSameVolume : ℕ → ℕ → Option Volume → Option Volume → Type 0
+IsSameVolume size blocks (Some before) (Some after) = IsSame size blocks before after
+IsSameVolume size blocks None after = ⊥
+IsSameVolume size blocks (Some before) None = ⊥
 
 -- a volume, acceptance and the rules are read from the sectors of both sequence extents and from the places outside the areas
 unfoldable pub is_read : ℕ → ℕ → Volume → ℕ → Bool

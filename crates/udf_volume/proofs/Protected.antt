@@ -1,0 +1,84 @@
+-- Volumes that a repair may write are those of the accepted images.
+use Rattle.std.proofs.Common.{◌≡◌, ℕ, arith, refl, sym, ◌∙◌, ap, List, ltb, Bool, true, false, cond, not, ◌&&◌, Option, Some, None, Ok, Err, is_ok}
+use Rattle.std.specs.Prelude.{is_none}
+use Rattle.udf_model.specs.Image.{block_of, blocks_in}
+use Rattle.udf_volume_model.specs.Anchor.{places}
+use Rattle.udf_volume_model.specs.Kept as model
+use Rattle.udf_volume_model.specs.Kept.{has_anchor, volume_of}
+use Rattle.udf_volume_model.specs.Sequence.{Descriptor}
+use Rattle.udf_volume_model.specs.Stated.{is_built, logical, partition}
+use Rattle.udf_volume_model.specs.Profile.{has_block_size, has_domain, has_revision, has_pointer, has_no_tables, is_profile, is_protected as is_protected_list, is_guarded_list}
+use Rattle.udf_volume_model.specs.Layout.{is_lawful}
+use Rattle.udf_volume_model.specs.Accepted.{is_accepted, is_accepted_by}
+use Rattle.udf_volume.specs.declared.missing.Missing.{Missing}
+use Rattle.udf_volume.specs.declared.missing.Missing.TheVariants as missing
+use Rattle.udf_volume.specs.declared.missing.ProfileItem.{ProfileItem}
+use Rattle.udf_volume.specs.declared.missing.ProfileItem.TheVariants as item
+use Rattle.udf_volume.specs.declared.volume.Volume.{Volume}
+use Rattle.udf_volume.specs.Opened.{volume_by, is_guarded, unlike_profile, unlike_maps, by_profile, by_refusal, refusal_of, accepted, by_volume, opened}
+use Rattle.udf_volume.specs.Writable.{is_protected, by_protection, opened_writable}
+
+module _ (size : ℕ) (image : List ℕ) where
+  pub refused_first : (missing : Missing) → opened size image ≡ Err missing → opened_writable size image ≡ Err missing
+  unfolding opened_writable
+  refused_first missing e = ap by_protection e
+
+  pub protected : (volume : Volume) → opened size image ≡ Ok volume → true ≡ is_protected volume → opened_writable size image ≡ Err missing.WriteProtected
+  unfolding opened_writable
+  protected volume e p = ap by_protection e ∙ ap (λ b. cond b (Err missing.WriteProtected) (Ok volume)) (sym p)
+
+  pub unprotected : (volume : Volume) → opened size image ≡ Ok volume → false ≡ is_protected volume → opened_writable size image ≡ Ok volume
+  unfolding opened_writable
+  unprotected volume e p = ap by_protection e ∙ ap (λ b. cond b (Err missing.WriteProtected) (Ok volume)) (sym p)
+
+by_tests : (a b c d e f : Bool) → (a && (b && (c && (not d && (e && f)))))
+    ≡ is_none (cond (not a) (Some item.BlockSize) (cond (not b) (Some item.Domain) (cond (not c) (Some item.Revision) (cond d (Some item.VolumePointer)
+    (cond (not e) (Some item.Unbuilt) (cond (not f) (Some item.SpaceTables) None))))))
+by_tests false b c d e f = refl
+by_tests true false c d e f = refl
+by_tests true true false d e f = refl
+by_tests true true true true e f = refl
+by_tests true true true false false f = refl
+by_tests true true true false true false = refl
+by_tests true true true false true true = refl
+
+profile_is : (size : ℕ) (list : List Descriptor) → is_profile size list ≡ is_none (unlike_profile size list)
+unfolding is_profile unlike_profile unlike_maps
+profile_is size list = by_tests (has_block_size size list) (has_domain list) (has_revision list) (has_pointer list) (is_built list) (has_no_tables list)
+
+protected_is : (size blocks : ℕ) (v : model.Volume) → is_protected (volume_by size blocks v (logical v.list) (partition v.list)) ≡ is_protected_list v.list
+unfolding is_protected volume_by is_protected_list is_guarded is_guarded_list
+protected_is size blocks v = refl
+
+by_parts : (item : Option ProfileItem) (lawful guarded : Bool) (volume : Volume) → is_protected volume ≡ guarded
+    → (is_none item && (lawful && not guarded)) ≡ is_ok (by_protection (by_refusal (by_profile item lawful) volume))
+by_parts (Some item) lawful guarded volume e = refl
+by_parts None false guarded volume e = refl
+by_parts None true true volume e = sym (ap (λ b. is_ok (cond b (Err missing.WriteProtected) (Ok volume))) e)
+by_parts None true false volume e = sym (ap (λ b. is_ok (cond b (Err missing.WriteProtected) (Ok volume))) e)
+
+kept_is : (size blocks : ℕ) (disk : ℕ → List ℕ) (any : Bool) (found : Option model.Volume)
+    → is_accepted_by size blocks disk found ≡ is_ok (by_protection (by_volume size blocks disk any found))
+unfolding accepted refusal_of
+kept_is size blocks disk true None = refl
+kept_is size blocks disk false None = refl
+kept_is size blocks disk any (Some v) =
+    ap (λ b. b && (is_lawful size blocks disk v && not (is_protected_list v.list))) (profile_is size v.list)
+    ∙ by_parts (unlike_profile size v.list) (is_lawful size blocks disk v) (is_protected_list v.list) (volume_by size blocks v (logical v.list) (partition v.list))
+    (protected_is size blocks v)
+
+fewer : (n : ℕ) → ltb n 4294967296 ≡ not (ltb 4294967295 n)
+fewer n = grind arith
+
+pub accepted_is : (size : ℕ) (image : List ℕ) → is_accepted size image ≡ is_ok (opened_writable size image)
+unfolding is_accepted opened_writable opened
+accepted_is size image =
+    ap (λ b. b && is_accepted_by size (blocks_in size image) (block_of size image) (volume_of size image)) (fewer (blocks_in size image))
+    ∙ by_count (ltb 4294967295 (blocks_in size image)) where
+      any : Bool
+      any = has_anchor size (blocks_in size image) (block_of size image) (places (blocks_in size image))
+
+      by_count : (b : Bool) → (not b && is_accepted_by size (blocks_in size image) (block_of size image) (volume_of size image))
+          ≡ is_ok (by_protection (cond b (Err missing.TooLarge) (by_volume size (blocks_in size image) (block_of size image) any (volume_of size image))))
+      by_count true = refl
+      by_count false = kept_is size (blocks_in size image) (block_of size image) any (volume_of size image)
