@@ -1,3 +1,11 @@
 pub mod LineLists
 pub mod Reported
 pub mod Outcomes
+pub mod Stepping
+pub mod Settling
+pub mod Said
+pub mod Mending
+pub mod Safe
+pub mod Commanded
+pub mod Ends
+pub mod Rerun

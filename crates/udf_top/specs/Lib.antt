@@ -1,7 +1,12 @@
 pub mod Status
 pub mod Lines
 pub mod Words
+pub mod Asked
 pub mod Texts
 pub mod Found
 pub mod Reported
+pub mod Repairing
+pub mod Headline
+pub mod Chains
 pub mod Udffsck
+pub mod Steps

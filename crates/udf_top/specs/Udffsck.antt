@@ -1,5 +1,7 @@
--- What `udffsck -c -B 512 MEDIUM` answers and prints.
-use Rattle.std.specs.Prelude.{◌≡◌, ℕ, Option, Some, None, List, [], ◌∷◌, ◌++◌, take, Result, Ok, Err}
+-- What `udffsck` answers and prints.
+use Rattle.std.specs.Prelude.{◌≡◌, ℕ, if◌then◌else◌, Option, Some, None, List, [], ◌∷◌, ◌++◌, take, Result, Ok, Err}
+use Rattle.std.specs.Str.{bytes_eq}
+use Rattle.udf_outside.specs.Stops.{Pair}
 use Rattle.udf_volume.specs.declared.missing.Missing.{Missing}
 use Rattle.udf_volume.specs.declared.missing.LayerStop.{LayerStop}
 use Rattle.udf_volume.specs.declared.missing.LayerStop.TheVariants as stops
@@ -8,10 +10,11 @@ use Rattle.udf_volume.specs.Opened.{opened}
 use Rattle.udf_top.specs.declared.finding.Finding.{Finding}
 use Rattle.udf_top.specs.declared.outcome.Outcome.{Outcome}
 use Rattle.udf_top.specs.declared.outcome.Outcome.TheVariants as outcome
-use Rattle.udf_top.specs.declared.outcome.Cause.TheVariants.{Words}
-use Rattle.udf_top.specs.Words.{medium_in}
+use Rattle.udf_top.specs.declared.outcome.Cause.{Cause}
+use Rattle.udf_top.specs.Words.{Command, command_in}
 use Rattle.udf_top.specs.Found.{findings_in}
 use Rattle.udf_top.specs.Texts.{text_of}
+use Rattle.udf_top.specs.Repairing.{repair_of, repair_said}
 
 -- nothing broken, or these findings
 abbrev pub by_findings : List Finding → Outcome
@@ -26,28 +29,47 @@ by_opened (Ok volume) findings = by_findings findings
 unfoldable pub check_of : ℕ → List ℕ → Outcome
 check_of size image = by_opened (opened size image) (findings_in size image)
 
-abbrev pub outcome_by : Option (List ℕ) → List ℕ → Outcome
-outcome_by None image = outcome.Usage Words
-outcome_by (Some medium) image = check_of 512 image
+-- a check, or a repair with this side file
+abbrev pub outcome_beside : Option (List ℕ) → ℕ → List ℕ → Pair → Outcome
+outcome_beside None size medium pair = check_of size pair.0
+outcome_beside (Some side) size medium pair = if bytes_eq side medium then outcome.SameFile else repair_of size pair
 
--- the outcome of a run with these words over this image
-unfoldable pub outcome_of : List (List ℕ) → List ℕ → Outcome
-outcome_of words image = outcome_by (medium_in words) image
+abbrev pub outcome_by : Result Command Cause → Pair → Outcome
+outcome_by (Err cause) pair = outcome.Usage cause
+outcome_by (Ok command) pair = outcome_beside command.side command.size command.medium pair
 
-abbrev pub text_by : Option (List ℕ) → Outcome → List ℕ
-text_by None = text_of []
-text_by (Some medium) = text_of medium
+-- the outcome of a run with these words over these files, where nothing fails
+unfoldable pub outcome_of : List (List ℕ) → Pair → Outcome
+outcome_of words pair = outcome_by (command_in words) pair
 
--- what a run with these words prints at an outcome
-unfoldable pub output_of : List (List ℕ) → Outcome → List ℕ
-output_of words = text_by (medium_in words)
+-- what a run without repair prints at an outcome
+abbrev pub text_by : Result Command Cause → Outcome → List ℕ
+text_by (Err cause) = text_of []
+text_by (Ok command) = text_of command.medium
+
+abbrev pub said_beside : Option (List ℕ) → ℕ → List ℕ → Pair → List ℕ
+said_beside None size medium pair = text_of medium (check_of size pair.0)
+said_beside (Some side) size medium pair = if bytes_eq side medium then text_of medium outcome.SameFile else repair_said size medium side pair
+
+abbrev pub said_by : Result Command Cause → Pair → List ℕ
+said_by (Err cause) pair = text_of [] (outcome.Usage cause)
+said_by (Ok command) pair = said_beside command.side command.size command.medium pair
+
+-- what a run with these words over these files prints, where nothing fails
+unfoldable pub output_of : List (List ℕ) → Pair → List ℕ
+output_of words pair = said_by (command_in words) pair
 
 -- the run came to its end: no fault and no want of memory
 abbrev pub HasEnded : Outcome → Type 0
 HasEnded outcome.Clean = Unit {0}
+HasEnded (outcome.Repaired replayed written) = Unit {0}
 HasEnded (outcome.Broken findings) = Unit {0}
 HasEnded (outcome.Refused missing) = Unit {0}
 HasEnded (outcome.Usage cause) = Unit {0}
+HasEnded outcome.SameFile = Unit {0}
+HasEnded outcome.NotALog = Unit {0}
+HasEnded outcome.BadLog = Unit {0}
+HasEnded (outcome.WrongImage clash) = Unit {0}
 HasEnded outcome.DeviceFault = ⊥
 HasEnded outcome.OutFault = ⊥
 HasEnded outcome.Memory = ⊥

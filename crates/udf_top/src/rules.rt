@@ -125,7 +125,6 @@ fn check_sequences<B: Bench>(
 }
 
 /// What breaks the rules on a volume of the image.
-
 pub(crate) fn check_rules<B: Bench>(
     alloc: Global,
     bench: &mut B,

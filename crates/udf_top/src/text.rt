@@ -2,7 +2,7 @@
 ghost use Rattle.std.specs.Prelude.{◌≡◌, ◌+◌, ◌≤◌, ◌++◌, length, IfOk, OnOk, codes, decimal, take};
 ghost use Rattle.udf_volume.specs.declared.missing.Missing.{Missing};
 ghost use Rattle.udf_top.specs.Lines.{lines_of, line_of};
-ghost use Rattle.udf_top.specs.Texts.{text_of, name_of, item_name, line_on};
+ghost use Rattle.udf_top.specs.Texts.{text_of, name_of, item_name, line_on, replayed_text, mend_text};
 
 use crate::{Finding, Findings, Outcome, report_line};
 use itoa::Buffer;
@@ -33,6 +33,7 @@ fn add_name(text: &mut Vec<u8>, missing: Missing) -> Result<(), AllocError>
         Missing::Anchor => text.extend_from_slice(b"Anchor"),
         Missing::Sequence => text.extend_from_slice(b"Sequence"),
         Missing::Layout => text.extend_from_slice(b"Layout"),
+        Missing::WriteProtected => text.extend_from_slice(b"WriteProtected"),
         Missing::Profile(profile) => {
             text.extend_from_slice(b"Profile ")?;
             text.extend_from_slice(item(profile).as_bytes())
@@ -40,14 +41,23 @@ fn add_name(text: &mut Vec<u8>, missing: Missing) -> Result<(), AllocError>
     }
 }
 
-// Begins a line that tells of the medium.
-fn begin(text: &mut Vec<u8>, medium: &str) -> Result<(), AllocError>
-    ensures { OnOk result (text.new.items ≡ text.old.items ++ (codes "udffsck: " ++ medium.now ++ codes ": ")) }
+// Begins a line that tells of a file.
+fn begin(text: &mut Vec<u8>, file: &str) -> Result<(), AllocError>
+    ensures { OnOk result (text.new.items ≡ text.old.items ++ (codes "udffsck: " ++ file.now ++ codes ": ")) }
 {
     text.extend_from_slice(b"udffsck: ")?;
-    text.extend_from_slice(medium.as_bytes())?;
+    text.extend_from_slice(file.as_bytes())?;
     text.extend_from_slice(b": ")?;
     Ok(())
+}
+
+// Adds a whole line that tells of a file.
+fn add_line_on(text: &mut Vec<u8>, file: &str, what: &[u8]) -> Result<(), AllocError>
+    ensures { OnOk result (text.new.items ≡ text.old.items ++ line_on file.now what.now) }
+{
+    begin(text, file)?;
+    text.extend_from_slice(what)?;
+    text.extend_from_slice(b"\n")
 }
 
 fn add_line(text: &mut Vec<u8>, finding: &Finding) -> Result<(), AllocError>
@@ -69,39 +79,81 @@ fn add_lines(text: &mut Vec<u8>, findings: &Findings) -> Result<(), AllocError>
     Ok(())
 }
 
-fn add_count(text: &mut Vec<u8>, count: u64) -> Result<(), AllocError>
-    ensures { OnOk result (text.new.items ≡ text.old.items ++ (decimal count ++ codes " broken")) }
+fn add_number(text: &mut Vec<u8>, number: u64) -> Result<(), AllocError>
+    ensures { OnOk result (text.new.items ≡ text.old.items ++ decimal number) }
 {
     let mut buffer = Buffer::new();
-    text.extend_from_slice(buffer.format(count).as_bytes())?;
-    text.extend_from_slice(b" broken")
+    text.extend_from_slice(buffer.format(number).as_bytes())
 }
 
-/// What is printed at an outcome of a check of the medium.
+/// What is printed at the end of a run: of the medium, or of the side file where that is no log of the image.
 #[tactic(auto, unfolding(crate::specs::Texts::text_of))]
-pub(crate) fn text(alloc: Global, medium: &str, outcome: &Outcome) -> Result<Vec<u8>, AllocError>
-    ensures { IfOk result (λ text. text.items ≡ text_of medium.now outcome.now) }
+pub(crate) fn text(alloc: Global, file: &str, outcome: &Outcome) -> Result<Vec<u8>, AllocError>
+    ensures { IfOk result (λ text. text.items ≡ text_of file.now outcome.now) }
 {
     let mut text = Vec::new(alloc);
     match outcome {
-        Outcome::Clean => {
-            begin(&mut text, medium)?;
-            text.extend_from_slice(b"clean\n")?;
-        }
+        Outcome::Clean => add_line_on(&mut text, file, b"clean")?,
         Outcome::Broken(findings) => {
             add_lines(&mut text, findings)?;
-            begin(&mut text, medium)?;
-            add_count(&mut text, findings.len())?;
-            text.extend_from_slice(b"\n")?;
+            begin(&mut text, file)?;
+            add_number(&mut text, findings.len())?;
+            text.extend_from_slice(b" broken\n")?;
         }
         Outcome::Refused(missing) => {
-            begin(&mut text, medium)?;
+            begin(&mut text, file)?;
             text.extend_from_slice(b"refused, ")?;
             add_name(&mut text, *missing)?;
             text.extend_from_slice(b"\n")?;
         }
         Outcome::Usage(_) => text.extend_from_slice(USAGE.as_bytes())?,
-        Outcome::DeviceFault | Outcome::OutFault | Outcome::Memory => {}
+        Outcome::SameFile => add_line_on(&mut text, file, b"side file is the medium")?,
+        Outcome::NotALog => add_line_on(&mut text, file, b"not a log")?,
+        Outcome::BadLog => add_line_on(&mut text, file, b"bad log")?,
+        Outcome::WrongImage(_) => add_line_on(&mut text, file, b"another image")?,
+        Outcome::Repaired { .. } | Outcome::DeviceFault | Outcome::OutFault | Outcome::Memory => {}
     }
+    Ok(text)
+}
+
+/// The line of a replay of so many blocks, where there was one.
+#[tactic(auto, unfolding(crate::specs::Texts::replayed_text))]
+pub(crate) fn replayed_line(
+    alloc: Global,
+    medium: &str,
+    replayed: u32,
+) -> Result<Vec<u8>, AllocError>
+    ensures { IfOk result (λ text. text.items ≡ replayed_text medium.now replayed) }
+{
+    let mut text = Vec::new(alloc);
+    if replayed > 0 {
+        begin(&mut text, medium)?;
+        text.extend_from_slice(b"replayed ")?;
+        add_number(&mut text, replayed as u64)?;
+        text.extend_from_slice(b" blocks\n")?;
+    }
+    Ok(text)
+}
+
+/// What a repair prints before it writes so many blocks.
+#[tactic(auto, unfolding(crate::specs::Texts::mend_text))]
+pub(crate) fn mend_lines(
+    alloc: Global,
+    medium: &str,
+    findings: &Findings,
+    written: u32,
+) -> Result<Vec<u8>, AllocError>
+    ensures { IfOk result (λ text. text.items ≡ mend_text medium.now findings.now written) }
+{
+    let mut text = Vec::new(alloc);
+    if findings.is_empty() {
+        add_line_on(&mut text, medium, b"clean")?;
+        return Ok(text);
+    }
+    add_lines(&mut text, findings)?;
+    begin(&mut text, medium)?;
+    text.extend_from_slice(b"repairing ")?;
+    add_number(&mut text, written as u64)?;
+    text.extend_from_slice(b" blocks\n")?;
     Ok(text)
 }

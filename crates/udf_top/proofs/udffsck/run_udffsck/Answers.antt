@@ -1,36 +1,98 @@
-use Rattle.std.proofs.Common.{◌++◌, sym, ◌∙◌, ap, subst, List, ℕ, Some}
-use Rattle.udf_top.specs.Texts.{text_of}
-use Rattle.udf_top.specs.Udffsck.{HoldsFront, HasEnded}
+use Rattle.std.proofs.Common.{◌≡◌, ◌++◌, ℕ, refl, sym, ◌∙◌, ap, subst, List, map, string_bytes, Option, Some, None, Result, Ok, Err, false, true}
+use Rattle.udf_outside.specs.Stops.{Held, bytes_of, pair_of}
 use Rattle.udf_top.specs.declared.outcome.Outcome.{Outcome}
-use Rattle.udf_top.proofs.Outcomes.{outcome_none, output_none, outcome_some, output_some, front_by}
+use Rattle.udf_top.specs.declared.outcome.Outcome.TheVariants as outcome
+use Rattle.udf_top.specs.declared.outcome.Cause.{Cause}
+use Rattle.udf_top.specs.declared.words.Work.{Work}
+use Rattle.udf_top.specs.Words.{Command, Repair, command_in}
+use Rattle.udf_top.specs.Asked.{side_seen}
+use Rattle.udf_top.specs.Texts.{text_of}
+use Rattle.udf_top.specs.Udffsck.{check_of, text_by, HasEnded, HoldsFront}
+use Rattle.udf_top.proofs.Commanded as commanded
 use Rattle.udf_top.proofs.udffsck.run_udffsck.Goals as goal
 
-pub returns-in-None-clause-outcome : goal.returns-in-None-clause-outcome
-returns-in-None-clause-outcome g c = λ tells ended. c.say.ensures.kept ended ∙ sym (outcome_none _ _ c.in-None.ensures)
+pub returns-in-Err-clause-outcome : goal.returns-in-Err-clause-outcome
+returns-in-Err-clause-outcome g c tells ended =
+    c.say.ensures.kept ended ∙ sym (commanded.outcome_is _ (Err c.in-Err.cause) c.in-Err.ensures.read _)
 
-pub returns-in-None-clause-output : goal.returns-in-None-clause-output
-returns-in-None-clause-output g c = λ before told ended.
-    c.say.ensures.whole before told ended
-    ∙ ap (λ t. Some (before ++ t)) (sym (output_none _ c.say.result c.in-None.ensures ∙ ap (text_of _) (c.say.ensures.kept ended)))
+pub returns-in-Err-clause-output : goal.returns-in-Err-clause-output
+returns-in-Err-clause-output g c tells before told ended =
+    c.say.ensures.whole before told ended ∙ ap (λ (t : List ℕ). Some (before ++ t)) (sym (commanded.output_is _ (Err c.in-Err.cause) c.in-Err.ensures.read _))
 
-pub returns-in-None-clause-front : goal.returns-in-None-clause-front
-returns-in-None-clause-front g c = λ tells before told.
-    let P : List ℕ → Type 0 = λ t. HoldsFront (g.O.Sink.told c.say.new.out) before t in
-    subst P (sym (output_none _ _ c.in-None.ensures ∙ ap (text_of _) (outcome_none _ _ c.in-None.ensures))) (c.say.ensures.front before told)
+pub returns-in-Err-clause-front : goal.returns-in-Err-clause-front
+returns-in-Err-clause-front g c tells before told =
+    subst (λ (t : List ℕ). HoldsFront (g.O.Sink.told c.say.new.out) before t) (sym (commanded.output_is _ (Err c.in-Err.cause) c.in-Err.ensures.read _)) (c.say.ensures.front before told)
 
-pub returns-in-Some-clause-outcome : goal.returns-in-Some-clause-outcome
-returns-in-Some-clause-outcome g c = λ tells ended.
-    let kept = c.say-in-Some.ensures.kept ended in
-    let P : Outcome → Type 0 = λ o. HasEnded o in
-    kept ∙ c.check-outcome.ensures.answers tells (subst P kept ended) ∙ sym (outcome_some _ _ _ c.in-Some.ensures)
+pub returns-in-Err-clause-repairs : goal.returns-in-Err-clause-repairs
+returns-in-Err-clause-repairs g c tells repair e = absurd (commanded.none_asked _ (Err c.in-Err.cause) c.in-Err.ensures.read refl repair e)
 
-pub returns-in-Some-clause-output : goal.returns-in-Some-clause-output
-returns-in-Some-clause-output g c = λ before told ended.
-    c.say-in-Some.ensures.whole before told ended
-    ∙ ap (λ t. Some (before ++ t)) (sym (output_some _ c.say-in-Some.result _ c.in-Some.ensures ∙ ap (text_of _) (c.say-in-Some.ensures.kept ended)))
+pub returns-in-Check-clause-outcome : goal.returns-in-Check-clause-outcome
+returns-in-Check-clause-outcome g c tells ended =
+    let read = c.in-Ok.ensures.read ∙ ap (λ (w : Work). Ok (record { size = c.in-Ok.command.size; medium = c.in-Ok.command.medium.now; side = side_seen w c.in-Ok.command.medium.now })) c.in-Check.is in
+    let kept = c.say-in-Check.ensures.kept ended in
+    kept ∙ c.check-outcome.ensures.answers tells (subst HasEnded kept ended) ∙ sym (commanded.outcome_is _ _ read (pair_of (g.B.Bench.held c.args.bench.now)))
 
-pub returns-in-Some-clause-front : goal.returns-in-Some-clause-front
-returns-in-Some-clause-front g c = λ tells before told.
-    let P : List ℕ → Type 0 = λ t. HoldsFront (g.O.Sink.told c.say-in-Some.new.out) before t in
-    subst P (sym (output_some _ _ _ c.in-Some.ensures ∙ ap (text_of _) (outcome_some _ _ _ c.in-Some.ensures)))
-    (front_by _ before _ _ _ (c.check-outcome.ensures.answers tells) (c.say-in-Some.ensures.front before told))
+pub returns-in-Check-clause-output : goal.returns-in-Check-clause-output
+returns-in-Check-clause-output g c tells before told ended =
+    let read = c.in-Ok.ensures.read ∙ ap (λ (w : Work). Ok (record { size = c.in-Ok.command.size; medium = c.in-Ok.command.medium.now; side = side_seen w c.in-Ok.command.medium.now })) c.in-Check.is in
+    let kept = c.say-in-Check.ensures.kept ended in
+    c.say-in-Check.ensures.whole before told ended
+    ∙ ap (λ (t : List ℕ). Some (before ++ t)) (ap (text_of _) (c.check-outcome.ensures.answers tells (subst HasEnded kept ended))
+    ∙ sym (commanded.output_is _ _ read (pair_of (g.B.Bench.held c.args.bench.now))))
+
+pub returns-in-Check-clause-front : goal.returns-in-Check-clause-front
+returns-in-Check-clause-front g c tells before told =
+    let read = c.in-Ok.ensures.read ∙ ap (λ (w : Work). Ok (record { size = c.in-Ok.command.size; medium = c.in-Ok.command.medium.now; side = side_seen w c.in-Ok.command.medium.now })) c.in-Check.is in
+    subst (λ (t : List ℕ). HoldsFront (g.O.Sink.told c.say-in-Check.new.out) before t) (sym (commanded.output_is _ _ read (pair_of (g.B.Bench.held c.args.bench.now))))
+    (commanded.front_by _ before _ _ c.check-outcome.result (c.check-outcome.ensures.answers tells) (c.say-in-Check.ensures.front before told))
+
+pub returns-in-Check-clause-repaired : goal.returns-in-Check-clause-repaired
+returns-in-Check-clause-repaired g c repair e =
+    let read = c.in-Ok.ensures.read ∙ ap (λ (w : Work). Ok (record { size = c.in-Ok.command.size; medium = c.in-Ok.command.medium.now; side = side_seen w c.in-Ok.command.medium.now })) c.in-Check.is in
+    absurd (commanded.none_asked _ _ read refl repair e)
+
+pub returns-in-Check-clause-repairs : goal.returns-in-Check-clause-repairs
+returns-in-Check-clause-repairs g c tells repair e =
+    let read = c.in-Ok.ensures.read ∙ ap (λ (w : Work). Ok (record { size = c.in-Ok.command.size; medium = c.in-Ok.command.medium.now; side = side_seen w c.in-Ok.command.medium.now })) c.in-Check.is in
+    absurd (commanded.none_asked _ _ read refl repair e)
+
+pub returns-in-Repair-clause-outcome : goal.returns-in-Repair-clause-outcome
+returns-in-Repair-clause-outcome g c tells ended =
+    let read = c.in-Ok.ensures.read ∙ ap (λ (w : Work). Ok (record { size = c.in-Ok.command.size; medium = c.in-Ok.command.medium.now; side = side_seen w c.in-Ok.command.medium.now })) c.in-Repair.is in
+    c.repair_beside.ensures.outcome tells ended ∙ sym (commanded.outcome_is _ _ read _)
+
+pub returns-in-Repair-clause-output : goal.returns-in-Repair-clause-output
+returns-in-Repair-clause-output g c tells before told ended =
+    let read = c.in-Ok.ensures.read ∙ ap (λ (w : Work). Ok (record { size = c.in-Ok.command.size; medium = c.in-Ok.command.medium.now; side = side_seen w c.in-Ok.command.medium.now })) c.in-Repair.is in
+    (c.repair_beside.ensures.said tells before told).whole ended ∙ ap (λ (t : List ℕ). Some (before ++ t)) (sym (commanded.output_is _ _ read _))
+
+pub returns-in-Repair-clause-front : goal.returns-in-Repair-clause-front
+returns-in-Repair-clause-front g c tells before told =
+    let read = c.in-Ok.ensures.read ∙ ap (λ (w : Work). Ok (record { size = c.in-Ok.command.size; medium = c.in-Ok.command.medium.now; side = side_seen w c.in-Ok.command.medium.now })) c.in-Repair.is in
+    subst (λ (t : List ℕ). HoldsFront (g.O.Sink.told c.repair_beside.new.out) before t) (sym (commanded.output_is _ _ read _)) (c.repair_beside.ensures.said tells before told).front
+
+pub returns-in-Repair-clause-said : goal.returns-in-Repair-clause-said
+returns-in-Repair-clause-said g c none before told ended =
+    let read = c.in-Ok.ensures.read ∙ ap (λ (w : Work). Ok (record { size = c.in-Ok.command.size; medium = c.in-Ok.command.medium.now; side = side_seen w c.in-Ok.command.medium.now })) c.in-Repair.is in
+    c.repair_beside.ensures.unsaid (sym (commanded.repair_is _ _ read) ∙ none) before told ended
+    ∙ ap (λ (t : List ℕ). Some (before ++ t)) (sym (commanded.text_is _ _ read c.repair_beside.result))
+
+pub returns-in-Repair-clause-repaired : goal.returns-in-Repair-clause-repaired
+returns-in-Repair-clause-repaired g c repair e =
+    let read = c.in-Ok.ensures.read ∙ ap (λ (w : Work). Ok (record { size = c.in-Ok.command.size; medium = c.in-Ok.command.medium.now; side = side_seen w c.in-Ok.command.medium.now })) c.in-Repair.is in
+    c.repair_beside.ensures.asked repair (sym (commanded.repair_is _ _ read) ∙ e)
+
+pub returns-in-Repair-clause-unasked : goal.returns-in-Repair-clause-unasked
+returns-in-Repair-clause-unasked g c none other =
+    let read = c.in-Ok.ensures.read ∙ ap (λ (w : Work). Ok (record { size = c.in-Ok.command.size; medium = c.in-Ok.command.medium.now; side = side_seen w c.in-Ok.command.medium.now })) c.in-Repair.is in
+    c.repair_beside.ensures.unasked (sym (commanded.repair_is _ _ read) ∙ none)
+
+pub returns-in-Repair-clause-held : goal.returns-in-Repair-clause-held
+returns-in-Repair-clause-held g c none =
+    let read = c.in-Ok.ensures.read ∙ ap (λ (w : Work). Ok (record { size = c.in-Ok.command.size; medium = c.in-Ok.command.medium.now; side = side_seen w c.in-Ok.command.medium.now })) c.in-Repair.is in
+    c.repair_beside.ensures.held (sym (commanded.repair_is _ _ read) ∙ none)
+
+pub returns-in-Repair-clause-repairs : goal.returns-in-Repair-clause-repairs
+returns-in-Repair-clause-repairs g c tells repair e =
+    let read = c.in-Ok.ensures.read ∙ ap (λ (w : Work). Ok (record { size = c.in-Ok.command.size; medium = c.in-Ok.command.medium.now; side = side_seen w c.in-Ok.command.medium.now })) c.in-Repair.is in
+    c.repair_beside.ensures.repairs tells repair (sym (commanded.repair_is _ _ read) ∙ e)

@@ -1,0 +1,244 @@
+-- How a repair ends.
+use Rattle.std.proofs.Common.{◌≡◌, ◌≤◌, ℕ, zero, suc, List, [], ◌∷◌, ◌++◌, refl, sym, ◌∙◌, ap, subst, Bool, true, false, cond, Option, Some, Result, Ok, Err}
+use Rattle.std.specs.Str.{bytes_eq}
+use Rattle.udf_outside.specs.declared.bench.Role.TheVariants.{Image, Side}
+use Rattle.udf_outside.specs.Stops.{Held, Pair, bytes_of, pair_of, moment, IsSettled, LeavesOnly}
+use Rattle.udf_outside.proofs.Moments.{seen_now, now_counts}
+use Rattle.udf_outside.proofs.Runs.{leaves_weaker, leaves_then}
+use Rattle.udf_volume_model.specs.Accepted.{is_accepted, is_unbroken, mended}
+use Rattle.udf_volume_laws.proofs.Final.{IsMendedImage, mended_image}
+use Rattle.udf_volume.specs.declared.missing.Missing.{Missing}
+use Rattle.udf_volume.specs.declared.volume.Volume.{Volume}
+use Rattle.udf_volume.specs.Writable.{opened_writable}
+use Rattle.udf_redo.specs.declared.stop.RedoStop.{RedoStop}
+use Rattle.udf_redo.specs.declared.stop.RedoStop.TheVariants as stop
+use Rattle.udf_redo.specs.Settled.{settled, IsOpenLog, IsFree, CanGoOn}
+use Rattle.udf_redo.specs.Faults.{Answers}
+use Rattle.udf_top.specs.declared.finding.Finding.{Finding}
+use Rattle.udf_top.specs.declared.outcome.Outcome.{Outcome}
+use Rattle.udf_top.specs.declared.outcome.Outcome.TheVariants as outcome
+use Rattle.udf_top.specs.Found.{findings_in}
+use Rattle.udf_top.specs.Texts.{text_of, replayed_text}
+use Rattle.udf_top.specs.Repairing.{replaying, refused_log, repaired_as, mend_of, mend_said, written_in, repair_from, repair_of, said_from, repair_said, target}
+use Rattle.udf_top.specs.Headline.{IsDone, HasRepaired, HasRepairedOrFailed, HasOpenedNoGate, IsSafe, Repairs}
+use Rattle.udf_top.specs.Steps.{IsSettling, IsMending, IsMended, Mends, Says}
+use Rattle.udf_top.specs.Udffsck.{said_beside, HasEnded, HoldsFront}
+use Rattle.udf_top.proofs.Commanded.{front_of_none}
+use Rattle.udf_top.proofs.Mending.{ended_repaired, mend_ok, mend_refused, accepted_ok, not_accepted}
+use Rattle.udf_top.proofs.Safe.{HasBegun, can_go, cannot, target_goes, safe_mending}
+use Rattle.udf_top.proofs.Said.{says_failed, says_same, says_then, first_held}
+
+-- outcomes
+pub failed_or : (result : Outcome) → (HasEnded result → ⊥) → HasRepairedOrFailed result
+failed_or outcome.Clean f = tt
+failed_or (outcome.Repaired replayed written) f = tt
+failed_or (outcome.Broken findings) f = f tt
+failed_or (outcome.Refused missing) f = f tt
+failed_or (outcome.Usage cause) f = f tt
+failed_or outcome.SameFile f = f tt
+failed_or outcome.NotALog f = f tt
+failed_or outcome.BadLog f = f tt
+failed_or (outcome.WrongImage clash) f = f tt
+failed_or outcome.DeviceFault f = tt
+failed_or outcome.OutFault f = tt
+failed_or outcome.Memory f = tt
+
+ended_as : (result wanted : Outcome) → (HasEnded result → result ≡ wanted) → HasRepairedOrFailed wanted → HasRepairedOrFailed result
+ended_as outcome.Clean wanted is w = tt
+ended_as (outcome.Repaired replayed written) wanted is w = tt
+ended_as (outcome.Broken findings) wanted is w = subst HasRepairedOrFailed (sym (is tt)) w
+ended_as (outcome.Refused missing) wanted is w = subst HasRepairedOrFailed (sym (is tt)) w
+ended_as (outcome.Usage cause) wanted is w = subst HasRepairedOrFailed (sym (is tt)) w
+ended_as outcome.SameFile wanted is w = subst HasRepairedOrFailed (sym (is tt)) w
+ended_as outcome.NotALog wanted is w = subst HasRepairedOrFailed (sym (is tt)) w
+ended_as outcome.BadLog wanted is w = subst HasRepairedOrFailed (sym (is tt)) w
+ended_as (outcome.WrongImage clash) wanted is w = subst HasRepairedOrFailed (sym (is tt)) w
+ended_as outcome.DeviceFault wanted is w = tt
+ended_as outcome.OutFault wanted is w = tt
+ended_as outcome.Memory wanted is w = tt
+
+no_gate : (result : Outcome) → (HasRepairedOrFailed result → ⊥) → HasOpenedNoGate result
+no_gate outcome.Clean f = tt
+no_gate (outcome.Repaired replayed written) f = absurd (f tt)
+no_gate (outcome.Broken findings) f = tt
+no_gate (outcome.Refused missing) f = tt
+no_gate (outcome.Usage cause) f = tt
+no_gate outcome.SameFile f = tt
+no_gate outcome.NotALog f = tt
+no_gate outcome.BadLog f = tt
+no_gate (outcome.WrongImage clash) f = tt
+no_gate outcome.DeviceFault f = absurd (f tt)
+no_gate outcome.OutFault f = tt
+no_gate outcome.Memory f = tt
+
+module _ (size : ℕ) (old middle : Held) (has : HasBegun size old middle) (result : Outcome) where
+  -- a fault or want of memory came before the image was looked at
+  pub repairs_failed : (HasEnded result → ⊥) → Repairs size old middle result
+  repairs_failed failed = record {
+    moments = has.safe;
+    complete = λ can accepted. failed_or result failed;
+    done = λ repaired. absurd (failed (ended_repaired result repaired));
+    still = λ none unbroken. has.still none;
+    refused = λ none not. has.still none;
+    settled_only = λ missing is. absurd (failed (subst HasEnded (sym is) tt));
+    unopened = λ unopened. has.stands;
+  }
+
+  -- the side file is no log of the image, or a fault or want of memory came
+  module _ (why : RedoStop) (answers : Answers {T = ℕ} (replaying (pair_of old)) (Err why)) (is : HasEnded result → result ≡ refused_log why) where
+    not_ended : (w : RedoStop) → Answers {T = ℕ} (replaying (pair_of old)) (Err w) → CanGoOn (pair_of old) → HasEnded (refused_log w) → ⊥
+    not_ended stop.NotALog e can ended = cannot (bytes_of Image old) (bytes_of Side old) stop.NotALog e can
+    not_ended stop.BadLog e can ended = cannot (bytes_of Image old) (bytes_of Side old) stop.BadLog e can
+    not_ended (stop.WrongImage clash) e can ended = cannot (bytes_of Image old) (bytes_of Side old) (stop.WrongImage clash) e can
+    not_ended stop.Fault e can ended = ended
+    not_ended stop.Memory e can ended = ended
+
+    not_repaired : (w : RedoStop) → HasRepaired (refused_log w) → ⊥
+    not_repaired stop.NotALog h = h
+    not_repaired stop.BadLog h = h
+    not_repaired (stop.WrongImage clash) h = h
+    not_repaired stop.Fault h = h
+    not_repaired stop.Memory h = h
+
+    not_refused : (w : RedoStop) (missing : Missing) → refused_log w ≡ outcome.Refused missing → ⊥
+    not_refused stop.NotALog missing e = absurd (cc)
+    not_refused stop.BadLog missing e = absurd (cc)
+    not_refused (stop.WrongImage clash) missing e = absurd (cc)
+    not_refused stop.Fault missing e = absurd (cc)
+    not_refused stop.Memory missing e = absurd (cc)
+
+    pub repairs_unsettled : Repairs size old middle result
+    repairs_unsettled = record {
+      moments = has.safe;
+      complete = λ can accepted. failed_or result (λ ended. not_ended why answers can (subst HasEnded (is ended) ended));
+      done = λ repaired. absurd (not_repaired why (subst HasRepaired (is (ended_repaired result repaired)) repaired));
+      still = λ none unbroken. has.still none;
+      refused = λ none not. has.still none;
+      settled_only = λ missing e. absurd (not_refused why missing (sym (is (subst HasEnded (sym e) tt)) ∙ e));
+      unopened = λ unopened. has.stands;
+    }
+
+    answered : (w : RedoStop) → Answers {T = ℕ} (replaying (pair_of old)) (Err w) → HasEnded (refused_log w) → replaying (pair_of old) ≡ Err w
+    answered stop.NotALog e ended = e
+    answered stop.BadLog e ended = e
+    answered (stop.WrongImage clash) e ended = e
+    answered stop.Fault e ended = absurd ended
+    answered stop.Memory e ended = absurd ended
+
+    pub outcome_unsettled : HasEnded result → result ≡ repair_of size (pair_of old)
+    unfolding repair_of
+    outcome_unsettled ended =
+        is ended ∙ sym (ap (λ (r : Result ℕ RedoStop). repair_from size r (settled (pair_of old))) (answered why answers (subst HasEnded (is ended) ended)))
+
+    pub says_unsettled : (told : Option (List ℕ)) (before medium side : List ℕ) → Says told before (text_of side (refused_log why)) result
+        → Says told before (repair_said size medium side (pair_of old)) result
+    unfolding repair_said text_of
+    says_unsettled told before medium side says = by_stop why answers is says where
+      said : (w : RedoStop) → replaying (pair_of old) ≡ Err w → text_of side (refused_log w) ≡ said_from size medium side (replaying (pair_of old)) (settled (pair_of old))
+      said w e = sym (ap (λ (r : Result ℕ RedoStop). said_from size medium side r (settled (pair_of old))) e)
+
+      by_stop : (w : RedoStop) → Answers {T = ℕ} (replaying (pair_of old)) (Err w) → (HasEnded result → result ≡ refused_log w) → Says told before (text_of side (refused_log w)) result
+          → Says told before (said_from size medium side (replaying (pair_of old)) (settled (pair_of old))) result
+      by_stop stop.NotALog e i s = says_same told before _ _ result (said stop.NotALog e) s
+      by_stop stop.BadLog e i s = says_same told before _ _ result (said stop.BadLog e) s
+      by_stop (stop.WrongImage clash) e i s = says_same told before _ _ result (said (stop.WrongImage clash) e) s
+      by_stop stop.Fault e i s = says_failed told before _ result (front_of_none told before _ s.front) (λ ended. subst HasEnded (i ended) ended)
+      by_stop stop.Memory e i s = says_failed told before _ result (front_of_none told before _ s.front) (λ ended. subst HasEnded (i ended) ended)
+
+  -- what was said where so many blocks were replayed
+  module _ (replayed : ℕ) (answer : replaying (pair_of old) ≡ Ok replayed) where
+    said_is : (medium side : List ℕ) → replayed_text medium replayed ++ mend_said size medium (settled (pair_of old)) ≡ repair_said size medium side (pair_of old)
+    unfolding repair_said
+    said_is medium side = sym (ap (λ (r : Result ℕ RedoStop). said_from size medium side r (settled (pair_of old))) answer)
+
+    pub says_stopped : (told : Option (List ℕ)) (before medium side : List ℕ) → HoldsFront told before (replayed_text medium replayed) → (HasEnded result → ⊥)
+        → Says told before (repair_said size medium side (pair_of old)) result
+    says_stopped told before medium side front failed =
+        says_same told before _ _ result (said_is medium side) (says_failed told before _ result (first_held told before _ _ front) failed)
+
+    pub says_mended : (told : Option (List ℕ)) (before medium side : List ℕ) → Says told (before ++ replayed_text medium replayed) (mend_said size medium (settled (pair_of old))) result
+        → Says told before (repair_said size medium side (pair_of old)) result
+    says_mended told before medium side says = says_same told before _ _ result (said_is medium side) (says_then told before _ _ result says)
+
+-- what a repair beside the side file of this name says
+pub said_as : (wanted : Option (List ℕ)) (size : ℕ) (medium name side : List ℕ) (pair : Pair) → Some name ≡ wanted → side ≡ name → bytes_eq side medium ≡ false
+    → repair_said size medium side pair ≡ said_beside wanted size medium pair
+said_as wanted size medium name side pair is same apart =
+    sym (ap (λ (b : Bool). cond b (text_of medium outcome.SameFile) (repair_said size medium side pair)) apart)
+    ∙ ap (λ (n : List ℕ). said_beside (Some n) size medium pair) same
+    ∙ ap (λ (o : Option (List ℕ)). said_beside o size medium pair) is
+
+-- an accepted image is repaired
+accepted_ends : (size replayed : ℕ) (image : List ℕ) → is_accepted size image ≡ true → HasRepairedOrFailed (mend_of size replayed image)
+accepted_ends size replayed image accepted = by_opened (opened_writable size image) refl where
+  by_findings : (k : ℕ) (findings : List Finding) (written : ℕ) → HasRepairedOrFailed (repaired_as k findings written)
+  by_findings zero [] written = tt
+  by_findings zero (finding ∷ rest) written = tt
+  by_findings (suc k) findings written = tt
+
+  by_opened : (found : Result Volume Missing) → opened_writable size image ≡ found → HasRepairedOrFailed (mend_of size replayed image)
+  by_opened (Ok volume) e = subst HasRepairedOrFailed (sym (mend_ok size image replayed volume e)) (by_findings replayed (findings_in size image) (written_in size image))
+  by_opened (Err missing) e = absurd (let no : true ≡ false = sym accepted ∙ not_accepted size image missing e in cc)
+
+-- what was repaired was accepted
+repaired_accepted : (size replayed : ℕ) (image : List ℕ) → HasRepaired (mend_of size replayed image) → is_accepted size image ≡ true
+repaired_accepted size replayed image repaired = by_opened (opened_writable size image) refl where
+  by_opened : (found : Result Volume Missing) → opened_writable size image ≡ found → is_accepted size image ≡ true
+  by_opened (Ok volume) e = accepted_ok size image volume e
+  by_opened (Err missing) e = absurd (subst HasRepaired (mend_refused size image replayed missing e) repaired)
+
+-- The whole: `middle` is after the replay, `end` after the difference was written.
+module _ (size replayed : ℕ) (old middle end : Held) (result : Outcome) (large : 512 ≤ size) (has : HasBegun size old middle)
+    (answer : replaying (pair_of old) ≡ Ok replayed) (moments : CanGoOn (pair_of old) → LeavesOnly old middle (IsSettling (pair_of old)))
+    (image_is : bytes_of Image middle ≡ settled (pair_of old)) (free : IsFree (bytes_of Side middle)) (rests : IsSettled middle)
+    (mends : Mends size replayed middle end result) where
+  can : CanGoOn (pair_of old)
+  can = can_go (bytes_of Image old) (bytes_of Side old) replayed answer
+
+  here : IsSettling (pair_of old) (pair_of middle)
+  here = let all = moments can in all.each (pair_of middle) (now_counts middle (moment old) (pair_of middle) all.later (seen_now middle))
+
+  safe : LeavesOnly old end (IsSafe size (pair_of old))
+  safe =
+      leaves_then old middle end (IsSafe size (pair_of old)) has.safe
+      (leaves_weaker middle end (IsMending size (settled (pair_of old))) (IsSafe size (pair_of old))
+      (λ pair is. safe_mending size (pair_of old) pair can (pair_of middle) large image_is here is)
+      (subst (λ (v : List ℕ). LeavesOnly middle end (IsMending size v)) image_is mends.moments))
+
+  is_mend : HasEnded result → result ≡ mend_of size replayed (settled (pair_of old))
+  is_mend ended = mends.outcome ended ∙ ap (mend_of size replayed) image_is
+
+  pub outcome_mended : HasEnded result → result ≡ repair_of size (pair_of old)
+  unfolding repair_of
+  outcome_mended ended = is_mend ended ∙ sym (ap (λ (r : Result ℕ RedoStop). repair_from size r (settled (pair_of old))) answer)
+
+  done : HasRepaired result → IsDone size (pair_of old) end
+  done repaired =
+      let j = settled (pair_of old) in
+      let accepted = repaired_accepted size replayed j (subst HasRepaired (is_mend (ended_repaired result repaired)) repaired) in
+      let is : IsMended size j end = subst (λ (v : List ℕ). IsMended size v end) image_is (mends.done repaired) in
+      let law : IsMendedImage size j (mended size j) = mended_image size j large accepted in record {
+        holds = is.holds ∙ sym (target_goes (bytes_of Image old) (bytes_of Side old) size can);
+        accepted = ap (is_accepted size) is.holds ∙ law.accepted;
+        unbroken = ap (is_unbroken size) is.holds ∙ law.rules;
+        side = is.side;
+        settled = is.settled;
+      }
+
+  pub repairs_mended : Repairs size old end result
+  repairs_mended = record {
+    moments = safe;
+    complete = λ go accepted. ended_as result (mend_of size replayed (settled (pair_of old))) is_mend (accepted_ends size replayed (settled (pair_of old)) accepted);
+    done = done;
+    still = λ none unbroken.
+        let same = has.still none in
+        mends.unbroken (ap (λ (h : Held). is_unbroken size (bytes_of Image h)) same ∙ unbroken) ∙ same;
+    refused = λ none not. mends.unopened (no_gate result not) ∙ has.still none;
+    settled_only = λ missing e.
+        let same = mends.unopened (subst HasOpenedNoGate (sym e) tt) in (
+          ap (λ (h : Held). bytes_of Image h) same ∙ image_is,
+          (subst (λ (h : Held). IsFree (bytes_of Side h)) (sym same) free, subst (λ (h : Held). IsSettled h) (sym same) rests),
+        );
+    unopened = λ unopened.
+        subst (λ (h : Held). LeavesOnly old h (λ pair. settled pair ≡ settled (pair_of old))) (sym (mends.unopened unopened)) has.stands;
+  }

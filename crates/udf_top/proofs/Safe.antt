@@ -1,0 +1,125 @@
+-- What a stop leaves of a repair is safe.
+use Rattle.std.proofs.Common.{◌≡◌, ◌⊎◌, inl, inr, ⊎_elim, ◌≤◌, ℕ, List, length, get_or, refl, sym, ◌∙◌, ap, subst, Result, Ok, Err}
+use Rattle.udf_outside.specs.declared.bench.Role.TheVariants.{Image, Side}
+use Rattle.udf_outside.specs.Stops.{Held, Pair, bytes_of, pair_of, IsSettled, LeavesOnly}
+use Rattle.udf_outside.proofs.Runs.{leaves_same, leaves_weaker, leaves_then}
+use Rattle.udf_volume_model.specs.Accepted.{mended, plan_of}
+use Rattle.udf_volume_laws.proofs.Twice.{mended_twice}
+use Rattle.udf_redo.specs.declared.side.SideState.{SideState}
+use Rattle.udf_redo.specs.declared.side.SideState.TheVariants.{Empty, Closed, Open}
+use Rattle.udf_redo.specs.declared.stop.RedoStop.{RedoStop}
+use Rattle.udf_redo.specs.Log.{state_of}
+use Rattle.udf_redo.specs.Settled.{settled, IsOpenLog, IsFree, CanGoOn, IsElsewhere}
+use Rattle.udf_redo.proofs.States.{settled_other}
+use Rattle.udf_top.specs.Repairing.{replaying, target, target_by}
+use Rattle.udf_top.specs.Headline.{IsSafe}
+use Rattle.udf_top.specs.Steps.{IsSettling, IsMending}
+use Rattle.udf_top.proofs.Settling.{replaying_as, replaying_free, replaying_open, open_answered, settled_free, replays_log}
+
+-- a run can go on exactly where the side file asks for a replay of some blocks, or of none
+module _ (image side : List ℕ) where
+  can_by : (state : Result SideState RedoStop) (k : ℕ) → state_of side ≡ state → replaying (image, side) ≡ Ok k → CanGoOn (image, side)
+  can_by (Ok Empty) k state e = inl (inl state)
+  can_by (Ok Closed) k state e = inl (inr state)
+  can_by (Ok (Open head)) k state e = inr (open_answered image side head state k (sym (replaying_open image side head state) ∙ e))
+  can_by (Err why) k state e = absurd (let no : Err why ≡ Ok k = sym (replaying_as image side (Err why) state) ∙ e in cc)
+
+  pub can_go : (k : ℕ) → replaying (image, side) ≡ Ok k → CanGoOn (image, side)
+  can_go k e = can_by (state_of side) k refl e
+
+  pub goes : CanGoOn (image, side) → (k : ℕ) × (replaying (image, side) ≡ Ok k)
+  goes (inl free) = (0, replaying_free image side free)
+  goes (inr log) = replays_log image side log
+
+  pub cannot : (why : RedoStop) → replaying (image, side) ≡ Err why → CanGoOn (image, side) → ⊥
+  cannot why e can = let g = goes can in absurd (let no : Ok g.0 ≡ Err why = sym g.1 ∙ e in cc)
+
+  pub not_open : (why : RedoStop) → replaying (image, side) ≡ Err why → IsOpenLog side image → ⊥
+  not_open why e log = cannot why e (inr log)
+
+  -- the image is what the files stand for, unless an open log of it lies beside it
+  pub gate_of : CanGoOn (image, side) → IsOpenLog side image ⊎ (image ≡ settled (image, side))
+  gate_of (inl free) = inr (sym (settled_free image side free))
+  gate_of (inr log) = inl log
+
+  pub gate_here : IsOpenLog side image ⊎ (image ≡ settled (image, side))
+  gate_here = by_answer (replaying (image, side)) refl where
+    by_answer : (answer : Result ℕ RedoStop) → replaying (image, side) ≡ answer → IsOpenLog side image ⊎ (image ≡ settled (image, side))
+    by_answer (Ok k) e = gate_of (can_go k e)
+    by_answer (Err why) e = inr (sym (settled_other image side (not_open why e)))
+
+  module _ (size : ℕ) where
+    pub target_goes : CanGoOn (image, side) → target size (image, side) ≡ mended size (settled (image, side))
+    unfolding target
+    target_goes can = ap (λ (r : Result ℕ RedoStop). target_by size r image (settled (image, side))) (goes can).1
+
+-- the start of a run is safe
+pub safe_self : (size : ℕ) (start : Pair) → IsSafe size start start
+safe_self size start = record {
+  same_target = refl;
+  gate = ⊎_elim (λ log. inl log) (λ same. inr (inl same)) (gate_here start.0 start.1);
+  same_length = refl;
+  same_elsewhere = λ i log plan. refl;
+}
+
+module _ (size : ℕ) (start pair : Pair) (can : CanGoOn start) where
+  pub safe_settling : IsSettling start pair → IsSafe size start pair
+  safe_settling is = record {
+    same_target = target_goes pair.0 pair.1 size is.goes_on ∙ ap (mended size) is.stands_for ∙ sym (target_goes start.0 start.1 size can);
+    gate = ⊎_elim (λ log. inl log) (λ same. inr (inl (same ∙ is.stands_for))) (gate_of pair.0 pair.1 is.goes_on);
+    same_length = is.same_length;
+    same_elsewhere = λ i log plan. is.same_elsewhere i log;
+  }
+
+  -- `middle` is the pair after the replay
+  pub safe_mending : (middle : Pair) → 512 ≤ size → middle.0 ≡ settled start → IsSettling start middle → IsMending size (settled start) pair → IsSafe size start pair
+  safe_mending middle large same before is =
+      let wanted : target size start ≡ mended size (settled start) = target_goes start.0 start.1 size can in record {
+        same_target = target_goes pair.0 pair.1 size is.goes_on
+            ∙ ⊎_elim (λ as_is. ap (mended size) as_is) (λ done. ap (mended size) done ∙ mended_twice size (settled start) large) is.stands_for
+            ∙ sym wanted;
+        gate = ⊎_elim (λ log. inl log)
+            (λ here. inr (⊎_elim (λ as_is. inl (here ∙ as_is)) (λ done. inr (here ∙ done ∙ sym wanted)) is.stands_for))
+            (gate_of pair.0 pair.1 is.goes_on);
+        same_length = is.same_length ∙ ap length (sym same) ∙ before.same_length;
+        same_elsewhere = λ i log plan.
+            is.same_elsewhere i (subst (λ (v : List ℕ). IsElsewhere size (plan_of size (settled start) v) i) wanted plan)
+            ∙ ap (λ (v : List ℕ). get_or v i 0) (sym same) ∙ before.same_elsewhere i log;
+      }
+
+-- nothing was written
+module _ (old new : Held) (rests : IsSettled old) (same : new ≡ old) where
+  pub safe_rest : (size : ℕ) → LeavesOnly old new (IsSafe size (pair_of old))
+  safe_rest size =
+      leaves_same old new (IsSafe size (pair_of old)) same
+      (λ pair now. subst (λ (p : Pair). IsSafe size (pair_of old) p) (sym (rests pair now)) (safe_self size (pair_of old)))
+
+  pub stands_rest : LeavesOnly old new (λ pair. settled pair ≡ settled (pair_of old))
+  stands_rest =
+      leaves_same old new (λ pair. settled pair ≡ settled (pair_of old)) same
+      (λ pair now. ap settled (rests pair now))
+
+-- What is known after a replay, or an attempt at one.
+pub record HasBegun (size : ℕ) (old middle : Held) : Type 0 where
+  pub safe : LeavesOnly old middle (IsSafe size (pair_of old))
+  pub stands : LeavesOnly old middle (λ pair. settled pair ≡ settled (pair_of old))
+  pub still : (IsOpenLog (bytes_of Side old) (bytes_of Image old) → ⊥) → middle ≡ old
+
+pub unbegun : (size : ℕ) (old middle : Held) → IsSettled old → middle ≡ old → HasBegun size old middle
+unbegun size old middle rests same = record {
+  safe = safe_rest old middle rests same size;
+  stands = stands_rest old middle rests same;
+  still = λ none. same;
+}
+
+pub begun : (size : ℕ) (old middle : Held) → IsSettled old → (CanGoOn (pair_of old) → LeavesOnly old middle (IsSettling (pair_of old)))
+    → ((IsOpenLog (bytes_of Side old) (bytes_of Image old) → ⊥) → middle ≡ old) → HasBegun size old middle
+begun size old middle rests moments still = by_answer (replaying (pair_of old)) refl where
+  by_answer : (answer : Result ℕ RedoStop) → replaying (pair_of old) ≡ answer → HasBegun size old middle
+  by_answer (Ok k) e =
+      let can = can_go (bytes_of Image old) (bytes_of Side old) k e in record {
+        safe = leaves_weaker old middle (IsSettling (pair_of old)) (IsSafe size (pair_of old)) (λ pair is. safe_settling size (pair_of old) pair can is) (moments can);
+        stands = leaves_weaker old middle (IsSettling (pair_of old)) (λ pair. settled pair ≡ settled (pair_of old)) (λ pair is. is.stands_for) (moments can);
+        still = still;
+      }
+  by_answer (Err why) e = unbegun size old middle rests (still (not_open (bytes_of Image old) (bytes_of Side old) why e))

@@ -1,0 +1,152 @@
+-- What the steps of writing a plan leave of the files.
+use Rattle.std.proofs.Common.{◌≡◌, inl, inr, ⊎_elim, ◌≤◌, ◌<◌, ℕ, List, length, get_or, sym, ◌∙◌, ap, subst, Result, Ok, Err, OnOk}
+use Rattle.udf_outside.specs.declared.bench.Role.TheVariants.{Image, Side}
+use Rattle.udf_outside.specs.Stops.{Held, Pair, bytes_of, pair_of, moment, IsSettled, LeavesOnly}
+use Rattle.udf_outside.proofs.Moments.{seen_now, now_counts}
+use Rattle.udf_outside.proofs.Runs.{leaves_same, leaves_weaker, leaves_then}
+use Rattle.udf_volume_model.specs.Accepted.{mended, plan_of}
+use Rattle.udf_volume_model.specs.Edits.{put_blocks}
+use Rattle.udf_volume_model.specs.Plans.{ClimbsFrom}
+use Rattle.udf_volume_laws.proofs.Applied.{plan_gives}
+use Rattle.udf_redo.specs.declared.side.SideState.TheVariants.{Closed}
+use Rattle.udf_redo.specs.Log.{Edit, head_in, records_of, opened, state_of}
+use Rattle.udf_redo.specs.Settled.{settled, applied_to, IsOpenLog, IsFree, IsElsewhere}
+use Rattle.udf_redo.specs.Runs.{IsLogging, IsOpening, IsApplying, IsClosing}
+use Rattle.udf_redo.proofs.Lawful.{open_fits}
+use Rattle.udf_redo.proofs.Placed.{placed}
+use Rattle.udf_redo.proofs.Gates.{some_opened}
+use Rattle.udf_redo.proofs.States.{same_head, same_records, same_applied}
+use Rattle.udf_redo.specs.declared.head.LogHead.{LogHead}
+use Rattle.udf_top.specs.Steps.{IsMending, IsMended}
+
+-- the log of the plan, applied, makes the mended image
+pub applied_is : (size : ℕ) (image side : List ℕ) → 512 ≤ size → IsOpenLog side image → (head_in side).size ≡ size
+    → records_of side ≡ plan_of size image (mended size image) → ClimbsFrom 0 (records_of side) → applied_to side image ≡ mended size image
+applied_is size image side large log size_is records up =
+    placed (head_in side).size 0 (records_of side) image up (open_fits side image log)
+    ∙ ap (λ (n : ℕ). put_blocks n (records_of side) image) size_is
+    ∙ ap (λ (edits : List Edit). put_blocks size edits image) records
+    ∙ plan_gives size image large
+
+module _ (size : ℕ) (image : List ℕ) where
+  pub logging : (pair : Pair) → IsLogging image pair → IsMending size image pair
+  logging pair is = record {
+    goes_on = is.goes_on;
+    stands_for = inl is.stands_for;
+    same_length = ap length is.same_image;
+    same_elsewhere = λ i out. ap (λ (v : List ℕ). get_or v i 0) is.same_image;
+  }
+
+  pub opening : (side : List ℕ) → applied_to side image ≡ mended size image → (pair : Pair) → IsOpening side image pair → IsMending size image pair
+  opening side done pair is = record {
+    goes_on = is.goes_on;
+    stands_for = ⊎_elim (λ same. inl same) (λ put. inr (put ∙ done)) is.stands_for;
+    same_length = ap length is.same_image;
+    same_elsewhere = λ i out. ap (λ (v : List ℕ). get_or v i 0) is.same_image;
+  }
+
+  pub applying : (side : List ℕ) → (head_in side).size ≡ size → records_of side ≡ plan_of size image (mended size image)
+      → applied_to side image ≡ mended size image → (pair : Pair) → IsApplying side image pair → IsMending size image pair
+  applying side size_is records done pair is = record {
+    goes_on = is.goes_on;
+    stands_for = inr (is.stands_for ∙ done);
+    same_length = is.same_length;
+    same_elsewhere = λ i out. is.same_elsewhere i
+        (subst (λ (n : ℕ). IsElsewhere n (records_of side) i) (sym size_is) (subst (λ (edits : List Edit). IsElsewhere size edits i) (sym records) out));
+  }
+
+  pub closing : (here : Pair) → here.0 ≡ mended size image → IsMending size image here → (pair : Pair) → IsClosing here.0 pair → IsMending size image pair
+  closing here done stands pair is = record {
+    goes_on = is.goes_on;
+    stands_for = inr (is.stands_for ∙ done);
+    same_length = ap length is.same_image ∙ stands.same_length;
+    same_elsewhere = λ i out. ap (λ (v : List ℕ). get_or v i 0) is.same_image ∙ stands.same_elsewhere i out;
+  }
+
+  -- nothing was written
+  pub resting : (pair : Pair) → pair.0 ≡ image → IsFree pair.1 → settled pair ≡ image → IsMending size image pair
+  resting pair same free stands = record {
+    goes_on = inl free;
+    stands_for = inl stands;
+    same_length = ap length same;
+    same_elsewhere = λ i out. ap (λ (v : List ℕ). get_or v i 0) same;
+  }
+
+-- what is known of a plan that was written as a log behind a closed gate
+pub record IsWritten (size : ℕ) (image side : List ℕ) : Type 0 where
+  pub large : 512 ≤ size
+  pub log : IsOpenLog (opened side) image
+  pub size_is : (head_in side).size ≡ size
+  pub records : records_of side ≡ plan_of size image (mended size image)
+  pub up : ClimbsFrom 0 (records_of side)
+
+pub written_applied : (size : ℕ) (image side : List ℕ) → IsWritten size image side → applied_to side image ≡ mended size image
+written_applied size image side is =
+    let some = some_opened side image is.log in
+    let same : records_of (opened side) ≡ records_of side = same_records side 0x4F some in
+    sym (same_applied side image 0x4F some)
+    ∙ applied_is size image (opened side) is.large is.log (ap (λ (h : LogHead). h.size) (same_head side 0x4F some) ∙ is.size_is) (same ∙ is.records)
+    (subst (λ (edits : List Edit). ClimbsFrom 0 edits) (sym same) is.up)
+
+-- The moments of writing a plan, step by step. `logged` is after the log was written, `open` after the gate was opened, `put`
+-- after the blocks were written.
+module _ (size : ℕ) (start logged : Held) (is : IsWritten size (bytes_of Image start) (bytes_of Side logged))
+    (log_image : bytes_of Image logged ≡ bytes_of Image start)
+    (logging_leaves : LeavesOnly start logged (IsLogging (bytes_of Image start))) where
+  abbrev image : List ℕ
+  image = bytes_of Image start
+
+  abbrev pub Mending : Pair → Type 0
+  Mending = IsMending size (bytes_of Image start)
+
+  -- the gate was opened, or a stop came
+  pub until_open : (end : Held) → LeavesOnly logged end (IsOpening (bytes_of Side logged) (bytes_of Image logged)) → LeavesOnly start end Mending
+  until_open end leaves =
+      leaves_then start logged end Mending
+      (leaves_weaker start logged (IsLogging image) Mending (logging size image) logging_leaves)
+      (leaves_weaker logged end (IsOpening (bytes_of Side logged) image) Mending
+      (opening size image (bytes_of Side logged) (written_applied size image (bytes_of Side logged) is))
+      (subst (λ (v : List ℕ). LeavesOnly logged end (IsOpening (bytes_of Side logged) v)) log_image leaves))
+
+  module _ (gated : Held) (gate_side : bytes_of Side gated ≡ opened (bytes_of Side logged)) (gate_image : bytes_of Image gated ≡ bytes_of Image logged)
+      (gate_leaves : LeavesOnly logged gated (IsOpening (bytes_of Side logged) (bytes_of Image logged))) where
+    some : 0 < length (bytes_of Side logged)
+    some = some_opened (bytes_of Side logged) image is.log
+
+    open_size : (head_in (bytes_of Side gated)).size ≡ size
+    open_size = ap (λ (s : List ℕ). (head_in s).size) gate_side ∙ ap (λ (h : LogHead). h.size) (same_head (bytes_of Side logged) 0x4F some) ∙ is.size_is
+
+    open_records : records_of (bytes_of Side gated) ≡ plan_of size image (mended size image)
+    open_records = ap (λ (s : List ℕ). records_of s) gate_side ∙ same_records (bytes_of Side logged) 0x4F some ∙ is.records
+
+    still_image : bytes_of Image gated ≡ image
+    still_image = gate_image ∙ log_image
+
+    pub open_applied : applied_to (bytes_of Side gated) (bytes_of Image gated) ≡ mended size image
+    open_applied =
+        ap (λ (v : List ℕ). applied_to (bytes_of Side gated) v) still_image
+        ∙ ap (λ (s : List ℕ). applied_to s image) gate_side
+        ∙ same_applied (bytes_of Side logged) image 0x4F some
+        ∙ written_applied size image (bytes_of Side logged) is
+
+    -- the blocks were written, or a stop came
+    pub until_put : (end : Held) → LeavesOnly gated end (IsApplying (bytes_of Side gated) (bytes_of Image gated)) → LeavesOnly start end Mending
+    until_put end leaves =
+        leaves_then start gated end Mending (until_open gated gate_leaves)
+        (leaves_weaker gated end (IsApplying (bytes_of Side gated) image) Mending
+        (applying size image (bytes_of Side gated) open_size open_records (ap (λ (v : List ℕ). applied_to (bytes_of Side gated) v) (sym still_image) ∙ open_applied))
+        (subst (λ (v : List ℕ). LeavesOnly gated end (IsApplying (bytes_of Side gated) v)) still_image leaves))
+
+    -- the gate was closed, or a stop came
+    pub until_closed : (put end : Held) → LeavesOnly gated put (IsApplying (bytes_of Side gated) (bytes_of Image gated))
+        → bytes_of Image put ≡ applied_to (bytes_of Side gated) (bytes_of Image gated) → LeavesOnly put end (IsClosing (bytes_of Image put)) → LeavesOnly start end Mending
+    until_closed put end leaves done closes =
+        let before : LeavesOnly start put Mending = until_put put leaves in
+        let here : Mending (pair_of put) = before.each (pair_of put) (now_counts put (moment start) (pair_of put) before.later (seen_now put)) in
+        leaves_then start put end Mending before
+        (leaves_weaker put end (IsClosing (bytes_of Image put)) Mending (closing size image (pair_of put) (done ∙ open_applied) here) closes)
+
+pub done_on : {T E : Type 0} (result : Result T E) (size : ℕ) (v : List ℕ) (end : Held) → bytes_of Image end ≡ mended size v
+    → OnOk result (state_of (bytes_of Side end) ≡ Ok Closed) → OnOk result (IsSettled end) → OnOk result (IsMended size v end)
+done_on (Ok x) size v end holds closed settled = record { holds = holds; side = inr closed; settled = settled }
+done_on (Err e) size v end holds closed settled = tt

@@ -1,0 +1,74 @@
+use Rattle.std.proofs.Common.{◌≡◌, sym, ◌∙◌, ap, subst, List, ℕ}
+use Rattle.udf_outside.specs.Stops.{Held, bytes_of}
+use Rattle.udf_outside.specs.declared.bench.Role.TheVariants.{Image, Side}
+use Rattle.udf_volume_model.specs.Plans.{ClimbsFrom}
+use Rattle.udf_redo.specs.Log.{Edit}
+use Rattle.udf_redo.specs.declared.head.LogHead.{LogHead}
+use Rattle.udf_redo.proofs.Logged.{size_cases}
+use Rattle.udf_top.proofs.Stepping.{IsWritten, until_open, until_put, until_closed, open_applied, done_on}
+use Rattle.udf_top.proofs.mend.write_plan.Goals as goal
+
+pub returns-in_err-open_gate-clause-moments : goal.returns-in_err-open_gate-clause-moments
+returns-in_err-open_gate-clause-moments g c tells =
+    let start = g.B.Bench.held c.args.bench.now in
+    let logged = g.B.Bench.held c.write_log.new.bench in
+    let records = c.in_ok-write_log.ensures.records tells in
+    let is : IsWritten c.args.volume.now.size (bytes_of Image start) (bytes_of Side logged) = record {
+      large = (size_cases c.args.volume.now.size c.requires.size).0;
+      log = c.in_ok-write_log.ensures.log tells;
+      size_is = ap (λ (h : LogHead). h.size) (c.in_ok-write_log.ensures.head tells);
+      records = records ∙ c.requires.plan tells;
+      up = subst (λ (edits : List Edit). ClimbsFrom 0 edits) (sym records) c.requires.lawful.lawful.ascends;
+    } in
+    until_open c.args.volume.now.size start logged is (c.write_log.ensures.image tells) (c.write_log.ensures.moments tells)
+    (g.B.Bench.held c.open_gate.new.bench) (c.open_gate.ensures.moments tells)
+
+pub returns-in_err-apply-clause-moments : goal.returns-in_err-apply-clause-moments
+returns-in_err-apply-clause-moments g c tells =
+    let start = g.B.Bench.held c.args.bench.now in
+    let logged = g.B.Bench.held c.write_log.new.bench in
+    let records = c.in_ok-write_log.ensures.records tells in
+    let is : IsWritten c.args.volume.now.size (bytes_of Image start) (bytes_of Side logged) = record {
+      large = (size_cases c.args.volume.now.size c.requires.size).0;
+      log = c.in_ok-write_log.ensures.log tells;
+      size_is = ap (λ (h : LogHead). h.size) (c.in_ok-write_log.ensures.head tells);
+      records = records ∙ c.requires.plan tells;
+      up = subst (λ (edits : List Edit). ClimbsFrom 0 edits) (sym records) c.requires.lawful.lawful.ascends;
+    } in
+    until_put c.args.volume.now.size start logged is (c.write_log.ensures.image tells) (c.write_log.ensures.moments tells)
+    (g.B.Bench.held c.open_gate.new.bench) (c.in_ok-open_gate.ensures.side tells) (c.open_gate.ensures.image tells) (c.open_gate.ensures.moments tells)
+    (g.B.Bench.held c.apply.new.bench) (c.apply.ensures.moments tells)
+
+pub returns-clause-moments : goal.returns-clause-moments
+returns-clause-moments g c tells =
+    let start = g.B.Bench.held c.args.bench.now in
+    let logged = g.B.Bench.held c.write_log.new.bench in
+    let records = c.in_ok-write_log.ensures.records tells in
+    let is : IsWritten c.args.volume.now.size (bytes_of Image start) (bytes_of Side logged) = record {
+      large = (size_cases c.args.volume.now.size c.requires.size).0;
+      log = c.in_ok-write_log.ensures.log tells;
+      size_is = ap (λ (h : LogHead). h.size) (c.in_ok-write_log.ensures.head tells);
+      records = records ∙ c.requires.plan tells;
+      up = subst (λ (edits : List Edit). ClimbsFrom 0 edits) (sym records) c.requires.lawful.lawful.ascends;
+    } in
+    until_closed c.args.volume.now.size start logged is (c.write_log.ensures.image tells) (c.write_log.ensures.moments tells)
+    (g.B.Bench.held c.open_gate.new.bench) (c.in_ok-open_gate.ensures.side tells) (c.open_gate.ensures.image tells) (c.open_gate.ensures.moments tells)
+    (g.B.Bench.held c.apply.new.bench) (g.B.Bench.held c.close_gate.new.bench) (c.apply.ensures.moments tells) (c.in_ok-apply.ensures.image tells) (c.close_gate.ensures.moments tells)
+
+pub returns-clause-done : goal.returns-clause-done
+returns-clause-done g c tells =
+    let start = g.B.Bench.held c.args.bench.now in
+    let logged = g.B.Bench.held c.write_log.new.bench in
+    let records = c.in_ok-write_log.ensures.records tells in
+    let is : IsWritten c.args.volume.now.size (bytes_of Image start) (bytes_of Side logged) = record {
+      large = (size_cases c.args.volume.now.size c.requires.size).0;
+      log = c.in_ok-write_log.ensures.log tells;
+      size_is = ap (λ (h : LogHead). h.size) (c.in_ok-write_log.ensures.head tells);
+      records = records ∙ c.requires.plan tells;
+      up = subst (λ (edits : List Edit). ClimbsFrom 0 edits) (sym records) c.requires.lawful.lawful.ascends;
+    } in
+    let applied = open_applied c.args.volume.now.size start logged is (c.write_log.ensures.image tells) (c.write_log.ensures.moments tells)
+    (g.B.Bench.held c.open_gate.new.bench) (c.in_ok-open_gate.ensures.side tells) (c.open_gate.ensures.image tells) (c.open_gate.ensures.moments tells) in
+    done_on c.close_gate.result c.args.volume.now.size (bytes_of Image start) (g.B.Bench.held c.close_gate.new.bench)
+    (c.close_gate.ensures.image tells ∙ c.in_ok-apply.ensures.image tells ∙ applied)
+    (c.close_gate.ensures.closed tells) (c.close_gate.ensures.settled tells)

@@ -1,0 +1,101 @@
+-- What `udffsck -p` answers and prints, and the image that it ends in.
+use Rattle.std.specs.Prelude.{◌≡◌, ℕ, zero, suc, if◌then◌else◌, List, [], ◌∷◌, ◌++◌, length, Result, Ok, Err}
+use Rattle.udf_outside.specs.Stops.{Pair}
+use Rattle.udf_volume_model.specs.Accepted.{mended, difference}
+use Rattle.udf_volume.specs.declared.missing.Missing.{Missing}
+use Rattle.udf_volume.specs.declared.volume.Volume.{Volume}
+use Rattle.udf_volume.specs.Writable.{opened_writable}
+use Rattle.udf_redo.specs.declared.side.SideState.{SideState}
+use Rattle.udf_redo.specs.declared.side.SideState.TheVariants.{Empty, Closed, Open}
+use Rattle.udf_redo.specs.declared.stop.RedoStop.{RedoStop}
+use Rattle.udf_redo.specs.declared.stop.RedoStop.TheVariants as stop
+use Rattle.udf_redo.specs.Log.{Edit, head_in, records_of, state_of, is_log_of}
+use Rattle.udf_redo.specs.Settled.{settled, applied_to, replay_answer}
+use Rattle.udf_top.specs.declared.finding.Finding.{Finding}
+use Rattle.udf_top.specs.declared.outcome.Outcome.{Outcome}
+use Rattle.udf_top.specs.declared.outcome.Outcome.TheVariants as outcome
+use Rattle.udf_top.specs.Found.{findings_in}
+use Rattle.udf_top.specs.Texts.{text_of, replayed_text, mend_text}
+
+-- how many blocks of an open log of the image are to be replayed, or why the side file is no log of it
+abbrev pub replaying_by : Result SideState RedoStop → List ℕ → Result ℕ RedoStop
+replaying_by (Ok Empty) image = Ok 0
+replaying_by (Ok Closed) image = Ok 0
+replaying_by (Ok (Open head)) image = replay_answer head image
+replaying_by (Err why) image = Err why
+
+unfoldable pub replaying : Pair → Result ℕ RedoStop
+replaying pair = replaying_by (state_of pair.1) pair.0
+
+-- the outcome where the side file is no log of the image
+abbrev pub refused_log : RedoStop → Outcome
+refused_log stop.NotALog = outcome.NotALog
+refused_log stop.BadLog = outcome.BadLog
+refused_log (stop.WrongImage clash) = outcome.WrongImage clash
+refused_log stop.Fault = outcome.DeviceFault
+refused_log stop.Memory = outcome.Memory
+
+-- the number of blocks in which the mended image differs
+unfoldable pub written_in : ℕ → List ℕ → ℕ
+written_in size image = length (difference size image (mended size image))
+
+-- the outcome of a repair that replayed so many blocks, found these findings, and repairs so many blocks
+abbrev pub repaired_as : ℕ → List Finding → ℕ → Outcome
+repaired_as zero [] written = outcome.Clean
+repaired_as zero (finding ∷ rest) written = outcome.Repaired 0 written
+repaired_as (suc k) findings written = outcome.Repaired (suc k) written
+
+abbrev pub mend_by : Result Volume Missing → ℕ → List Finding → ℕ → Outcome
+mend_by (Err missing) replayed findings written = outcome.Refused missing
+mend_by (Ok volume) replayed findings written = repaired_as replayed findings written
+
+-- the outcome of a repair of an image, after a replay of so many blocks
+unfoldable pub mend_of : ℕ → ℕ → List ℕ → Outcome
+mend_of size replayed image = mend_by (opened_writable size image) replayed (findings_in size image) (written_in size image)
+
+abbrev pub repair_from : ℕ → Result ℕ RedoStop → List ℕ → Outcome
+repair_from size (Err why) image = refused_log why
+repair_from size (Ok replayed) image = mend_of size replayed image
+
+-- The outcome of a repair of these files, where nothing fails: why the side file is no log of the image, or else what is said
+-- of the image that the files stand for.
+unfoldable pub repair_of : ℕ → Pair → Outcome
+repair_of size pair = repair_from size (replaying pair) (settled pair)
+
+abbrev pub text_by_volume : List ℕ → Result Volume Missing → List Finding → ℕ → List ℕ
+text_by_volume medium (Err missing) findings written = text_of medium (outcome.Refused missing)
+text_by_volume medium (Ok volume) findings written = mend_text medium findings written
+
+-- what is printed of an image that is to be repaired
+unfoldable pub mend_said : ℕ → List ℕ → List ℕ → List ℕ
+mend_said size medium image = text_by_volume medium (opened_writable size image) (findings_in size image) (written_in size image)
+
+abbrev pub said_from : ℕ → List ℕ → List ℕ → Result ℕ RedoStop → List ℕ → List ℕ
+said_from size medium side (Err why) image = text_of side (refused_log why)
+said_from size medium side (Ok replayed) image = replayed_text medium replayed ++ mend_said size medium image
+
+-- what a repair of these files prints, where nothing fails
+unfoldable pub repair_said : ℕ → List ℕ → List ℕ → Pair → List ℕ
+repair_said size medium side pair = said_from size medium side (replaying pair) (settled pair)
+
+-- The image in which each repair of these files ends, and each chain of stops and repairs that ends: the mended one of what
+-- they stand for, or the image as it is where the side file is no log of it.
+abbrev pub target_by : ℕ → Result ℕ RedoStop → List ℕ → List ℕ → List ℕ
+target_by size (Ok replayed) image found = mended size found
+target_by size (Err why) image found = image
+
+unfoldable pub target : ℕ → Pair → List ℕ
+target size pair = target_by size (replaying pair) pair.0 (settled pair)
+
+-- the records of an open log of the image, and their block size
+abbrev pub logged_by : Result SideState RedoStop → Pair → List Edit
+logged_by (Ok Empty) pair = []
+logged_by (Ok Closed) pair = []
+logged_by (Ok (Open head)) pair = if is_log_of head pair.0 then records_of pair.1 else []
+logged_by (Err why) pair = []
+
+unfoldable pub logged : Pair → List Edit
+logged pair = logged_by (state_of pair.1) pair
+
+abbrev pub log_size : Pair → ℕ
+log_size pair = (head_in pair.1).size

@@ -1,0 +1,75 @@
+-- What the steps of a repair leave of its files.
+use Rattle.std.specs.Prelude.{◌≡◌, ◌⊎◌, ℕ, true, List, ◌++◌, length, Option, Some, IfSome, Result, Ok, Err}
+use Rattle.udf_outside.specs.declared.bench.Access.TheVariants.{Write, Create}
+use Rattle.udf_outside.specs.Files.{Files}
+use Rattle.udf_outside.specs.declared.bench.Role.TheVariants.{Image, Side}
+use Rattle.udf_outside.specs.Stops.{Held, Pair, bytes_of, IsSettled, LeavesOnly}
+use Rattle.udf_volume_model.specs.Accepted.{mended, plan_of, is_unbroken}
+use Rattle.udf_volume.specs.declared.missing.LayerStop.{LayerStop}
+use Rattle.udf_volume.specs.declared.missing.LayerStop.TheVariants as stops
+use Rattle.udf_volume.specs.Writable.{opened_writable}
+use Rattle.udf_redo.specs.Settled.{settled, CanGoOn, IsFree, SameElsewhere}
+use Rattle.udf_top.specs.declared.mend.Inspected.{Inspected}
+use Rattle.udf_top.specs.Words.{Repair}
+use Rattle.udf_top.specs.Found.{findings_in}
+use Rattle.udf_top.specs.declared.outcome.Outcome.{Outcome}
+use Rattle.udf_top.specs.Repairing.{mend_of, logged, log_size}
+use Rattle.udf_top.specs.Headline.{HasRepaired, HasOpenedNoGate}
+use Rattle.udf_top.specs.Udffsck.{HasEnded, HoldsFront}
+
+-- the side file was asked for by this name, to be made where it is missing, or nothing was asked of it
+abbrev pub WasAsked : List ℕ → Files → Files → Type 0
+WasAsked name old new = (new.side ≡ old.side) ⊎ ((new.side.asked ≡ Some Create) × IfSome new.side.name (λ told. told ≡ name))
+
+-- A repair asked for the image by its name, for writing, and then for the side file; or, for want of memory, for nothing.
+abbrev pub AsksFor : Repair → Files → Files → Type 0
+AsksFor repair old new =
+    (new ≡ old)
+    ⊎ ((new.image.asked ≡ Some Write) × (IfSome new.image.name (λ told. told ≡ repair.medium) × WasAsked repair.side old new))
+
+-- nothing was asked for, and only the size of the side file may differ
+pub record KeepsAsked (old new : Files) : Type 0 where
+  pub image : new.image ≡ old.image
+  pub asked : new.side.asked ≡ old.side.asked
+  pub name : new.side.name ≡ old.side.name
+
+-- while an open log is replayed: the files stand for the settled image
+pub record IsSettling (start pair : Pair) : Type 0 where
+  pub goes_on : CanGoOn pair
+  pub stands_for : settled pair ≡ settled start
+  pub same_length : length pair.0 ≡ length start.0
+  pub same_elsewhere : SameElsewhere (log_size start) (logged start) start.0 pair.0
+
+-- while the difference is written: the files stand for the image as it is, or for the mended one
+pub record IsMending (size : ℕ) (image : List ℕ) (pair : Pair) : Type 0 where
+  pub goes_on : CanGoOn pair
+  pub stands_for : (settled pair ≡ image) ⊎ (settled pair ≡ mended size image)
+  pub same_length : length pair.0 ≡ length image
+  pub same_elsewhere : SameElsewhere size (plan_of size image (mended size image)) image pair.0
+
+-- the files after the difference was written
+pub record IsMended (size : ℕ) (image : List ℕ) (end : Held) : Type 0 where
+  pub holds : bytes_of Image end ≡ mended size image
+  pub side : IsFree (bytes_of Side end)
+  pub settled : IsSettled end
+
+-- what an inspection of an image answers, unless a fault or want of memory came
+abbrev pub Inspects : ℕ → List ℕ → Result Inspected LayerStop → Type 0
+Inspects size image (Ok found) = (opened_writable size image ≡ Ok found.volume) × (found.findings ≡ findings_in size image)
+Inspects size image (Err (stops.Missing missing)) = opened_writable size image ≡ Err missing
+Inspects size image (Err stops.Fault) = Unit {0}
+Inspects size image (Err stops.Memory) = Unit {0}
+
+-- The second half of a repair, over an image that is settled, after a replay of so many blocks: how it ends, what a stop leaves
+-- of it, and when nothing was written.
+pub record Mends (size replayed : ℕ) (old new : Held) (result : Outcome) : Type 0 where
+  pub outcome : HasEnded result → result ≡ mend_of size replayed (bytes_of Image old)
+  pub moments : LeavesOnly old new (IsMending size (bytes_of Image old))
+  pub done : HasRepaired result → IsMended size (bytes_of Image old) new
+  pub unopened : HasOpenedNoGate result → new ≡ old
+  pub unbroken : is_unbroken size (bytes_of Image old) ≡ true → new ≡ old
+
+-- this text was put, or a front of it after a fault or want of memory
+pub record Says (told : Option (List ℕ)) (before text : List ℕ) (result : Outcome) : Type 0 where
+  pub whole : HasEnded result → told ≡ Some (before ++ text)
+  pub front : HoldsFront told before text

@@ -1,0 +1,241 @@
+//! The second half of a repair: what breaks the rules is found and told, and the difference is written through the log.
+ghost use Rattle.std.specs.Prelude.{◌≡◌, ◌≤◌, ◌*◌, ◌/◌, ℕ, List, [], length, Some, IfOk, OnOk, IsErrOf, Ok, true};
+ghost use Rattle.udf_outside.specs.Files.{IsAttached, IsWritable};
+ghost use Rattle.udf_outside.specs.Stops.{bytes_of, IsSettled, LeavesOnly};
+ghost use Rattle.udf_outside.specs.Causes.{Rose};
+ghost use Rattle.udf_outside.specs.declared.bench.Role.TheVariants.{Image, Side};
+ghost use Rattle.udf_volume_model.specs.Accepted.{mended, plan_of};
+ghost use Rattle.udf_volume.specs.Laid.{IsLaidOut};
+ghost use Rattle.udf_volume.specs.Opened.{IsBounded};
+ghost use Rattle.udf_volume.specs.Writable.{opened_writable};
+ghost use Rattle.udf_plan.specs.Stated.{IsPlanFor};
+ghost use Rattle.udf_redo.specs.Log.{is_size};
+ghost use Rattle.udf_redo.specs.Settled.{IsFree};
+ghost use Rattle.udf_redo.specs.Faults.{HasFault, OnlyFaultsOrMemory};
+ghost use Rattle.udf_redo.specs.declared.stop.RedoStop.TheVariants.{Memory};
+ghost use Rattle.udf_top.specs.declared.outcome.Cause.{Cause};
+ghost use Rattle.udf_top.specs.Found.{findings_in};
+ghost use Rattle.udf_top.specs.Texts.{text_of};
+ghost use Rattle.udf_top.specs.Repairing.{mend_said, repaired_as};
+ghost use Rattle.udf_top.specs.Headline.{HasOpenedNoGate};
+ghost use Rattle.udf_top.specs.Steps.{IsMending, IsMended, Inspects, KeepsAsked, Mends, Says};
+ghost use Rattle.udf_top.specs.Udffsck.{HasEnded};
+
+use crate::rules::check_rules;
+use crate::say::{say, say_mend};
+use crate::{Findings, Outcome};
+use std::alloc::Global;
+use udf_outside::{Bench, Sink};
+use udf_plan::{Plan, plan_volume};
+use udf_redo::{RedoStop, apply, close_gate, open_gate, write_log};
+use udf_volume::{LayerStop, Volume, WorkStop, open_writable};
+
+/// A volume that a repair may write, and what breaks the rules on it.
+#[derive(Debug, Drop)]
+struct Inspected {
+    volume: Volume,
+    findings: Findings,
+}
+
+// Reads what a repair needs. `length` is the image's in bytes.
+#[tactic(auto, using(crate::proofs::Outcomes::fits, crate::proofs::Mending::opened_as))]
+fn inspect<B: Bench>(
+    alloc: Global,
+    bench: &mut B,
+    size: u32,
+    length: u64,
+) -> Result<Inspected, LayerStop>
+    requires attached { IsAttached Image (B.files bench.old) }
+    requires length { length ≡ (B.files bench.old).image.size }
+    requires large { 512 ≤ size }
+    ensures answers { B.tells → Inspects size (bytes_of Image (B.held bench.old)) result }
+    ensures bounds { IfOk result (λ found. IsBounded size (length / size) found.volume) }
+    ensures areas { IfOk result (λ found. IsLaidOut found.volume) }
+    ensures files { B.files bench.new ≡ B.files bench.old }
+    ensures held { B.held bench.new ≡ B.held bench.old }
+    ensures later { B.faults bench.old ≤ B.faults bench.new }
+    ensures fault { IsErrOf result LayerStop.Fault → Rose (B.faults bench.old) (B.faults bench.new) }
+{
+    let volume = open_writable(alloc, bench, size, length)?;
+    let findings = check_rules(alloc, bench, &volume)?;
+    Ok(Inspected { volume, findings })
+}
+
+// Writes a plan, which is not empty, through the log. Once the gate is open it takes no memory.
+fn write_plan<B: Bench>(
+    alloc: Global,
+    bench: &mut B,
+    plan: &Plan,
+    volume: &Volume,
+) -> Result<(), RedoStop>
+    requires image { IsWritable Image (B.files bench.old) }
+    requires side { IsWritable Side (B.files bench.old) }
+    requires size { is_size volume.now.size ≡ true }
+    requires bounded { IsBounded volume.now.size ((B.files bench.old).image.size / volume.now.size) volume.now }
+    requires some { 1 ≤ length plan.now.blocks }
+    requires lawful { IsPlanFor volume.now plan.now }
+    requires plan { B.tells → plan.now.blocks ≡ plan_of volume.now.size (bytes_of Image (B.held bench.old))
+        (mended volume.now.size (bytes_of Image (B.held bench.old))) }
+    requires free { B.tells → IsFree (bytes_of Side (B.held bench.old)) }
+    requires settled { B.tells → IsSettled (B.held bench.old) }
+    ensures moments { B.tells → LeavesOnly (B.held bench.old) (B.held bench.new)
+        (IsMending volume.now.size (bytes_of Image (B.held bench.old))) }
+    ensures done { B.tells → OnOk result (IsMended volume.now.size (bytes_of Image (B.held bench.old)) (B.held bench.new)) }
+    ensures memory { IsErrOf result Memory → B.held bench.new ≡ B.held bench.old }
+    ensures only_faults { OnlyFaultsOrMemory result }
+    ensures files { KeepsAsked (B.files bench.old) (B.files bench.new) }
+    ensures cause { HasFault (B.faults bench.old) (B.faults bench.new) result }
+{
+    write_log(alloc, bench, plan, volume)?;
+    open_gate(bench)?;
+    apply(bench, plan, volume.size)?;
+    close_gate(bench)
+}
+
+fn by_work(stop: WorkStop) -> Outcome
+    ensures fault { result ≡ Outcome.DeviceFault → stop ≡ WorkStop.Fault }
+    ensures told { stop ≡ WorkStop.Fault → result ≡ Outcome.DeviceFault }
+    ensures failed { HasEnded result → ⊥ }
+    ensures out { result ≡ Outcome.OutFault → ⊥ }
+{
+    match stop {
+        WorkStop::Fault => Outcome::DeviceFault,
+        WorkStop::Memory => Outcome::Memory,
+    }
+}
+
+// Writes a plan, where it is not empty, after so many blocks were replayed.
+fn write<B: Bench>(
+    alloc: Global,
+    replayed: u32,
+    plan: &Plan,
+    volume: &Volume,
+    bench: &mut B,
+) -> Outcome
+    requires image { IsWritable Image (B.files bench.old) }
+    requires side { IsWritable Side (B.files bench.old) }
+    requires size { is_size volume.now.size ≡ true }
+    requires bounded { IsBounded volume.now.size ((B.files bench.old).image.size / volume.now.size) volume.now }
+    requires lawful { IsPlanFor volume.now plan.now }
+    requires plan { B.tells → plan.now.blocks ≡ plan_of volume.now.size (bytes_of Image (B.held bench.old))
+        (mended volume.now.size (bytes_of Image (B.held bench.old))) }
+    requires free { B.tells → IsFree (bytes_of Side (B.held bench.old)) }
+    requires settled { B.tells → IsSettled (B.held bench.old) }
+    ensures written { HasEnded result → result ≡ Outcome.Repaired replayed (length plan.now.blocks) }
+    ensures moments { B.tells → LeavesOnly (B.held bench.old) (B.held bench.new)
+        (IsMending volume.now.size (bytes_of Image (B.held bench.old))) }
+    ensures done { B.tells → HasEnded result → IsMended volume.now.size (bytes_of Image (B.held bench.old)) (B.held bench.new) }
+    ensures unopened { HasOpenedNoGate result → B.held bench.new ≡ B.held bench.old }
+    ensures files { KeepsAsked (B.files bench.old) (B.files bench.new) }
+    ensures device { result ≡ Outcome.DeviceFault → Rose (B.faults bench.old) (B.faults bench.new) }
+    ensures out { result ≡ Outcome.OutFault → ⊥ }
+    ensures later { B.faults bench.old ≤ B.faults bench.new }
+{
+    let written = plan.len();
+    if written == 0 {
+        return Outcome::Repaired { replayed, written };
+    }
+    match write_plan(alloc, bench, plan, volume) {
+        Ok(()) => Outcome::Repaired { replayed, written },
+        Err(RedoStop::Memory) => Outcome::Memory,
+        Err(_) => Outcome::DeviceFault,
+    }
+}
+
+// Tells what is found, and writes the difference.
+#[tactic(auto, using(crate::proofs::Mending::large))]
+fn mend_broken<B: Bench, O: Sink>(
+    alloc: Global,
+    medium: &str,
+    replayed: u32,
+    found: &Inspected,
+    bench: &mut B,
+    out: &mut O,
+) -> Outcome
+    requires image { IsWritable Image (B.files bench.old) }
+    requires side { IsWritable Side (B.files bench.old) }
+    requires size { is_size found.now.volume.size ≡ true }
+    requires bounded { IsBounded found.now.volume.size ((B.files bench.old).image.size / found.now.volume.size) found.now.volume }
+    requires laid { IsLaidOut found.now.volume }
+    requires opened { B.tells → opened_writable found.now.volume.size (bytes_of Image (B.held bench.old)) ≡ Ok found.now.volume }
+    requires findings { B.tells → found.now.findings ≡ findings_in found.now.volume.size (bytes_of Image (B.held bench.old)) }
+    requires broken { 1 ≤ length found.now.findings }
+    requires free { B.tells → IsFree (bytes_of Side (B.held bench.old)) }
+    requires settled { B.tells → IsSettled (B.held bench.old) }
+    ensures mends { B.tells → Mends found.now.volume.size replayed (B.held bench.old) (B.held bench.new) result }
+    ensures said { B.tells → (before : List ℕ) → O.told out.old ≡ Some before
+        → Says (O.told out.new) before (mend_said found.now.volume.size medium.now (bytes_of Image (B.held bench.old))) result }
+    ensures device { result ≡ Outcome.DeviceFault → Rose (B.faults bench.old) (B.faults bench.new) }
+    ensures out { result ≡ Outcome.OutFault → Rose (O.faults out.old) (O.faults out.new) }
+    ensures usage { (cause : Cause) → result ≡ Outcome.Usage cause → ⊥ }
+    ensures files { KeepsAsked (B.files bench.old) (B.files bench.new) }
+    ensures later { B.faults bench.old ≤ B.faults bench.new }
+    ensures later_out { O.faults out.old ≤ O.faults out.new }
+{
+    let plan = match plan_volume(alloc, bench, &found.volume) {
+        Ok(plan) => plan,
+        Err(stop) => return by_work(stop),
+    };
+    if let Err(stop) = say_mend(alloc, medium, &found.findings, plan.len(), out) {
+        return stop.outcome();
+    }
+    write(alloc, replayed, &plan, &found.volume, bench)
+}
+
+// Tells that no rule is broken.
+fn end_unbroken<O: Sink>(alloc: Global, medium: &str, replayed: u32, out: &mut O) -> Outcome
+    ensures ended { HasEnded result → result ≡ repaired_as replayed [] 0 }
+    ensures said { (before : List ℕ) → O.told out.old ≡ Some before → Says (O.told out.new) before (text_of medium.now Outcome.Clean) result }
+    ensures device { result ≡ Outcome.DeviceFault → ⊥ }
+    ensures out { result ≡ Outcome.OutFault → Rose (O.faults out.old) (O.faults out.new) }
+    ensures later { O.faults out.old ≤ O.faults out.new }
+{
+    match say(alloc, medium, Outcome::Clean, out) {
+        Outcome::Clean if replayed > 0 => Outcome::Repaired {
+            replayed,
+            written: 0,
+        },
+        outcome => outcome,
+    }
+}
+
+/// Repairs a settled image, after a replay of so many blocks. `length` is the image's in bytes.
+#[tactic(auto, using(crate::proofs::Mending::large))]
+pub(crate) fn mend<B: Bench, O: Sink>(
+    alloc: Global,
+    size: u32,
+    medium: &str,
+    length: u64,
+    replayed: u32,
+    bench: &mut B,
+    out: &mut O,
+) -> Outcome
+    requires image { IsWritable Image (B.files bench.old) }
+    requires side { IsWritable Side (B.files bench.old) }
+    requires length { length ≡ (B.files bench.old).image.size }
+    requires size { is_size size ≡ true }
+    requires free { B.tells → IsFree (bytes_of Side (B.held bench.old)) }
+    requires settled { B.tells → IsSettled (B.held bench.old) }
+    ensures mends { B.tells → Mends size replayed (B.held bench.old) (B.held bench.new) result }
+    ensures said { B.tells → (before : List ℕ) → O.told out.old ≡ Some before
+        → Says (O.told out.new) before (mend_said size medium.now (bytes_of Image (B.held bench.old))) result }
+    ensures device { result ≡ Outcome.DeviceFault → Rose (B.faults bench.old) (B.faults bench.new) }
+    ensures out { result ≡ Outcome.OutFault → Rose (O.faults out.old) (O.faults out.new) }
+    ensures usage { (cause : Cause) → result ≡ Outcome.Usage cause → ⊥ }
+    ensures files { KeepsAsked (B.files bench.old) (B.files bench.new) }
+    ensures later { B.faults bench.old ≤ B.faults bench.new }
+    ensures later_out { O.faults out.old ≤ O.faults out.new }
+{
+    match inspect(alloc, bench, size, length) {
+        Ok(found) => {
+            if found.findings.is_empty() {
+                end_unbroken(alloc, medium, replayed, out)
+            } else {
+                mend_broken(alloc, medium, replayed, &found, bench, out)
+            }
+        }
+        Err(LayerStop::Missing(missing)) => say(alloc, medium, Outcome::Refused(missing), out),
+        Err(LayerStop::Fault) => Outcome::DeviceFault,
+        Err(LayerStop::Memory) => Outcome::Memory,
+    }
+}
