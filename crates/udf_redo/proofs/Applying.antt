@@ -90,6 +90,7 @@ module _ (side image : List ℕ) (log : IsOpenLog side image) where
       let also : IsOpenLog pair.1 pair.0 = subst (λ (s : List ℕ). IsOpenLog s pair.0) (sym near.same_side) (near_log pair near) in
       record {
         same_length = near.same_length;
+        same_head = ap (λ (s : List ℕ). head_in s) near.same_side;
         same_seal = near.same_seal;
         same_elsewhere = near.same_elsewhere;
         goes_on = inr also;

@@ -77,16 +77,17 @@ module _ (start : Held) (log : IsOpenLog (bytes_of Side start) (bytes_of Image s
 
 -- all blocks were written, and then the gate is closed
 pub then_closing : (start middle end : Held) → LeavesOnly start middle (IsApplying (bytes_of Side start) (bytes_of Image start)) → bytes_of Image middle ≡ applied_to (bytes_of Side start) (bytes_of Image start)
-    → LeavesOnly middle end (IsClosing (bytes_of Image middle)) → LeavesOnly start end (IsApplying (bytes_of Side start) (bytes_of Image start))
+    → LeavesOnly middle end (IsClosing (bytes_of Side middle) (bytes_of Image middle)) → LeavesOnly start end (IsApplying (bytes_of Side start) (bytes_of Image start))
 then_closing start middle end first done second =
     let side = bytes_of Side start in
     let image = bytes_of Image start in
     let here : IsApplying side image (pair_of middle) = first.each (pair_of middle) (now_counts middle (moment start) (pair_of middle) first.later (seen_now middle)) in
-    let weaker : (pair : Pair) → IsClosing (bytes_of Image middle) pair → IsApplying side image pair = λ pair closing. record {
+    let weaker : (pair : Pair) → IsClosing (bytes_of Side middle) (bytes_of Image middle) pair → IsApplying side image pair = λ pair closing. record {
       same_length = ap length closing.same_image ∙ here.same_length;
+      same_head = closing.same_head ∙ here.same_head;
       same_seal = ap (λ (v : List ℕ). sealed_in (head_in side) v) closing.same_image ∙ here.same_seal;
       same_elsewhere = λ i out. ap (λ (v : List ℕ). get_or v i 0) closing.same_image ∙ here.same_elsewhere i out;
       goes_on = closing.goes_on;
       stands_for = closing.stands_for ∙ done;
     } in
-    leaves_then start middle end (IsApplying side image) first (leaves_weaker middle end (IsClosing (bytes_of Image middle)) (IsApplying side image) weaker second)
+    leaves_then start middle end (IsApplying side image) first (leaves_weaker middle end (IsClosing (bytes_of Side middle) (bytes_of Image middle)) (IsApplying side image) weaker second)

@@ -17,16 +17,18 @@ pub record IsOpening (side image : List ℕ) (pair : Pair) : Type 0 where
   pub goes_on : CanGoOn pair
   pub stands_for : (settled pair ≡ image) ⊎ (settled pair ≡ applied_to side image)
 
--- while the recorded blocks are written: the files stand for the image with all of them
+-- while the recorded blocks are written: the files stand for the image with all of them, and what the log seals stays
 pub record IsApplying (side image : List ℕ) (pair : Pair) : Type 0 where
   pub same_length : length pair.0 ≡ length image
+  pub same_head : head_in pair.1 ≡ head_in side
   pub same_seal : sealed_in (head_in side) pair.0 ≡ sealed_in (head_in side) image
   pub same_elsewhere : SameElsewhere (head_in side).size (records_of side) image pair.0
   pub goes_on : CanGoOn pair
   pub stands_for : settled pair ≡ applied_to side image
 
 -- while the gate is closed: the files stand for the image as it is
-pub record IsClosing (image : List ℕ) (pair : Pair) : Type 0 where
+pub record IsClosing (side image : List ℕ) (pair : Pair) : Type 0 where
   pub same_image : pair.0 ≡ image
+  pub same_head : head_in pair.1 ≡ head_in side
   pub goes_on : CanGoOn pair
   pub stands_for : settled pair ≡ image

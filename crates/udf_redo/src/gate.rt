@@ -61,7 +61,8 @@ pub fn close_gate<B: Bench>(bench: &mut B) -> Result<(), RedoStop>
     requires log { B.tells → IsOpenLog (bytes_of Side (B.held bench.old)) (bytes_of Image (B.held bench.old)) }
     requires done { B.tells → applied_to (bytes_of Side (B.held bench.old)) (bytes_of Image (B.held bench.old)) ≡ bytes_of Image (B.held bench.old) }
     requires settled { B.tells → IsSettled (B.held bench.old) }
-    ensures moments { B.tells → LeavesOnly (B.held bench.old) (B.held bench.new) (IsClosing (bytes_of Image (B.held bench.old))) }
+    ensures moments { B.tells → LeavesOnly (B.held bench.old) (B.held bench.new)
+        (IsClosing (bytes_of Side (B.held bench.old)) (bytes_of Image (B.held bench.old))) }
     ensures side { B.tells → OnOk result (bytes_of Side (B.held bench.new) ≡ closed (bytes_of Side (B.held bench.old))) }
     ensures closed { B.tells → OnOk result (state_of (bytes_of Side (B.held bench.new)) ≡ Ok Closed) }
     ensures image { B.tells → bytes_of Image (B.held bench.new) ≡ bytes_of Image (B.held bench.old) }

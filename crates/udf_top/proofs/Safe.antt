@@ -60,6 +60,7 @@ safe_self size start = record {
   gate = ⊎_elim (λ log. inl log) (λ same. inr (inl same)) (gate_here start.0 start.1);
   same_length = refl;
   same_elsewhere = λ i log plan. refl;
+  same_seal = λ log. inl refl;
 }
 
 module _ (size : ℕ) (start pair : Pair) (can : CanGoOn start) where
@@ -69,6 +70,7 @@ module _ (size : ℕ) (start pair : Pair) (can : CanGoOn start) where
     gate = ⊎_elim (λ log. inl log) (λ same. inr (inl (same ∙ is.stands_for))) (gate_of pair.0 pair.1 is.goes_on);
     same_length = is.same_length;
     same_elsewhere = λ i log plan. is.same_elsewhere i log;
+    same_seal = λ log. inl is.same_seal;
   }
 
   -- `middle` is the pair after the replay
@@ -85,6 +87,7 @@ module _ (size : ℕ) (start pair : Pair) (can : CanGoOn start) where
         same_elsewhere = λ i log plan.
             is.same_elsewhere i (subst (λ (v : List ℕ). IsElsewhere size (plan_of size (settled start) v) i) wanted plan)
             ∙ ap (λ (v : List ℕ). get_or v i 0) (sym same) ∙ before.same_elsewhere i log;
+        same_seal = λ log. inr is.same_seal;
       }
 
 -- nothing was written

@@ -12,7 +12,7 @@ use Rattle.udf_redo.specs.declared.side.SideState.TheVariants.{Empty, Closed, Op
 use Rattle.udf_redo.specs.declared.stop.RedoStop.{RedoStop}
 use Rattle.udf_redo.specs.declared.stop.RedoStop.TheVariants as stop
 use Rattle.udf_redo.specs.declared.stop.Clash.{Clash}
-use Rattle.udf_redo.specs.Log.{Edit, head_in, records_of, state_of, seal_of, is_log_of}
+use Rattle.udf_redo.specs.Log.{Edit, head_in, records_of, state_of, sealed_in, seal_of, is_log_of}
 use Rattle.udf_redo.specs.Settled.{settled, settled_by, applied_to, clash_in, answer_by, replay_answer, IsOpenLog, IsFree, CanGoOn, IsElsewhere}
 use Rattle.udf_redo.specs.Faults.{Answers}
 use Rattle.udf_redo.specs.Runs.{IsApplying}
@@ -112,6 +112,7 @@ rests old new settled same goes_on =
       goes_on = goes_on;
       stands_for = refl;
       same_length = refl;
+      same_seal = refl;
       same_elsewhere = λ i out. refl;
     }))
 
@@ -124,6 +125,7 @@ replays old new log leaves =
       goes_on = is.goes_on;
       stands_for = is.stands_for ∙ sym (settled_open (bytes_of Image old) (bytes_of Side old) log);
       same_length = is.same_length;
+      same_seal = ap (λ (h : LogHead). sealed_in h pair.0) is.same_head ∙ is.same_seal ∙ ap (λ (h : LogHead). sealed_in h (bytes_of Image old)) (sym is.same_head);
       same_elsewhere = λ i out. is.same_elsewhere i
           (subst (λ (edits : List Edit). IsElsewhere (head_in (bytes_of Side old)).size edits i) (logged_open (bytes_of Image old) (bytes_of Side old) log) out);
     }) leaves

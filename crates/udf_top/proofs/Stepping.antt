@@ -9,7 +9,7 @@ use Rattle.udf_volume_model.specs.Edits.{put_blocks}
 use Rattle.udf_volume_model.specs.Plans.{ClimbsFrom}
 use Rattle.udf_volume_laws.proofs.Applied.{plan_gives}
 use Rattle.udf_redo.specs.declared.side.SideState.TheVariants.{Closed}
-use Rattle.udf_redo.specs.Log.{Edit, head_in, records_of, opened, state_of}
+use Rattle.udf_redo.specs.Log.{Edit, head_in, records_of, sealed_in, opened, state_of}
 use Rattle.udf_redo.specs.Settled.{settled, applied_to, IsOpenLog, IsFree, IsElsewhere}
 use Rattle.udf_redo.specs.Runs.{IsLogging, IsOpening, IsApplying, IsClosing}
 use Rattle.udf_redo.proofs.Lawful.{open_fits}
@@ -34,6 +34,7 @@ module _ (size : ℕ) (image : List ℕ) where
     goes_on = is.goes_on;
     stands_for = inl is.stands_for;
     same_length = ap length is.same_image;
+    same_seal = ap (sealed_in (head_in pair.1)) is.same_image;
     same_elsewhere = λ i out. ap (λ (v : List ℕ). get_or v i 0) is.same_image;
   }
 
@@ -42,6 +43,7 @@ module _ (size : ℕ) (image : List ℕ) where
     goes_on = is.goes_on;
     stands_for = ⊎_elim (λ same. inl same) (λ put. inr (put ∙ done)) is.stands_for;
     same_length = ap length is.same_image;
+    same_seal = ap (sealed_in (head_in pair.1)) is.same_image;
     same_elsewhere = λ i out. ap (λ (v : List ℕ). get_or v i 0) is.same_image;
   }
 
@@ -51,15 +53,18 @@ module _ (size : ℕ) (image : List ℕ) where
     goes_on = is.goes_on;
     stands_for = inr (is.stands_for ∙ done);
     same_length = is.same_length;
+    same_seal = ap (λ (h : LogHead). sealed_in h pair.0) is.same_head ∙ is.same_seal ∙ ap (λ (h : LogHead). sealed_in h image) (sym is.same_head);
     same_elsewhere = λ i out. is.same_elsewhere i
         (subst (λ (n : ℕ). IsElsewhere n (records_of side) i) (sym size_is) (subst (λ (edits : List Edit). IsElsewhere size edits i) (sym records) out));
   }
 
-  pub closing : (here : Pair) → here.0 ≡ mended size image → IsMending size image here → (pair : Pair) → IsClosing here.0 pair → IsMending size image pair
+  pub closing : (here : Pair) → here.0 ≡ mended size image → IsMending size image here → (pair : Pair) → IsClosing here.1 here.0 pair → IsMending size image pair
   closing here done stands pair is = record {
     goes_on = is.goes_on;
     stands_for = inr (is.stands_for ∙ done);
     same_length = ap length is.same_image ∙ stands.same_length;
+    same_seal = ap (λ (h : LogHead). sealed_in h pair.0) is.same_head ∙ ap (sealed_in (head_in here.1)) is.same_image ∙ stands.same_seal
+        ∙ ap (λ (h : LogHead). sealed_in h image) (sym is.same_head);
     same_elsewhere = λ i out. ap (λ (v : List ℕ). get_or v i 0) is.same_image ∙ stands.same_elsewhere i out;
   }
 
@@ -69,6 +74,7 @@ module _ (size : ℕ) (image : List ℕ) where
     goes_on = inl free;
     stands_for = inl stands;
     same_length = ap length same;
+    same_seal = ap (sealed_in (head_in pair.1)) same;
     same_elsewhere = λ i out. ap (λ (v : List ℕ). get_or v i 0) same;
   }
 
@@ -139,12 +145,12 @@ module _ (size : ℕ) (start logged : Held) (is : IsWritten size (bytes_of Image
 
     -- the gate was closed, or a stop came
     pub until_closed : (put end : Held) → LeavesOnly gated put (IsApplying (bytes_of Side gated) (bytes_of Image gated))
-        → bytes_of Image put ≡ applied_to (bytes_of Side gated) (bytes_of Image gated) → LeavesOnly put end (IsClosing (bytes_of Image put)) → LeavesOnly start end Mending
+        → bytes_of Image put ≡ applied_to (bytes_of Side gated) (bytes_of Image gated) → LeavesOnly put end (IsClosing (bytes_of Side put) (bytes_of Image put)) → LeavesOnly start end Mending
     until_closed put end leaves done closes =
         let before : LeavesOnly start put Mending = until_put put leaves in
         let here : Mending (pair_of put) = before.each (pair_of put) (now_counts put (moment start) (pair_of put) before.later (seen_now put)) in
         leaves_then start put end Mending before
-        (leaves_weaker put end (IsClosing (bytes_of Image put)) Mending (closing size image (pair_of put) (done ∙ open_applied) here) closes)
+        (leaves_weaker put end (IsClosing (bytes_of Side put) (bytes_of Image put)) Mending (closing size image (pair_of put) (done ∙ open_applied) here) closes)
 
 pub done_on : {T E : Type 0} (result : Result T E) (size : ℕ) (v : List ℕ) (end : Held) → bytes_of Image end ≡ mended size v
     → OnOk result (state_of (bytes_of Side end) ≡ Ok Closed) → OnOk result (IsSettled end) → OnOk result (IsMended size v end)

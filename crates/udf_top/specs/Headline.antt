@@ -4,20 +4,24 @@ use Rattle.udf_outside.specs.declared.bench.Role.TheVariants.{Image, Side}
 use Rattle.udf_outside.specs.Stops.{Held, Pair, bytes_of, pair_of, IsSettled, LeavesOnly}
 use Rattle.udf_volume_model.specs.Accepted.{is_accepted, is_unbroken, plan_of}
 use Rattle.udf_volume.specs.declared.missing.Missing.{Missing}
+use Rattle.udf_redo.specs.Log.{head_in, sealed_in}
 use Rattle.udf_redo.specs.Settled.{settled, IsOpenLog, IsFree, CanGoOn, IsElsewhere}
 use Rattle.udf_top.specs.declared.outcome.Outcome.{Outcome}
 use Rattle.udf_top.specs.declared.outcome.Outcome.TheVariants as outcome
 use Rattle.udf_top.specs.Repairing.{target, logged, log_size}
 
 -- What a stop leaves of a repair that began with the pair `start`: a rerun has the same target, the image is the settled or the
--- target one unless an open log of it lies beside it, and it has its length and differs only in blocks of the log that was
--- open at the start or of the difference.
+-- target one unless an open log of it lies beside it, it has its length and differs only in blocks of the log that was open at
+-- the start or of the difference, and while a log is open, what it seals is as in the image at the start or as settled.
 pub record IsSafe (size : ℕ) (start pair : Pair) : Type 0 where
   pub same_target : target size pair ≡ target size start
   pub gate : IsOpenLog pair.1 pair.0 ⊎ ((pair.0 ≡ settled start) ⊎ (pair.0 ≡ target size start))
   pub same_length : length pair.0 ≡ length start.0
   pub same_elsewhere : (i : ℕ) → IsElsewhere (log_size start) (logged start) i
       → IsElsewhere size (plan_of size (settled start) (target size start)) i → slice_index pair.0 i ≡ slice_index start.0 i
+  pub same_seal : IsOpenLog pair.1 pair.0
+      → (sealed_in (head_in pair.1) pair.0 ≡ sealed_in (head_in pair.1) start.0)
+      ⊎ (sealed_in (head_in pair.1) pair.0 ≡ sealed_in (head_in pair.1) (settled start))
 
 -- The files after a repair that ended: the image is the target, is accepted, and breaks no rule; no log is open; and nothing is
 -- pending.

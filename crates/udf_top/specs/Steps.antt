@@ -8,6 +8,7 @@ use Rattle.udf_volume_model.specs.Accepted.{mended, plan_of, is_unbroken}
 use Rattle.udf_volume.specs.declared.missing.LayerStop.{LayerStop}
 use Rattle.udf_volume.specs.declared.missing.LayerStop.TheVariants as stops
 use Rattle.udf_volume.specs.Writable.{opened_writable}
+use Rattle.udf_redo.specs.Log.{head_in, sealed_in}
 use Rattle.udf_redo.specs.Settled.{settled, CanGoOn, IsFree, SameElsewhere}
 use Rattle.udf_top.specs.declared.mend.Inspected.{Inspected}
 use Rattle.udf_top.specs.Words.{Repair}
@@ -33,18 +34,20 @@ pub record KeepsAsked (old new : Files) : Type 0 where
   pub asked : new.side.asked ≡ old.side.asked
   pub name : new.side.name ≡ old.side.name
 
--- while an open log is replayed: the files stand for the settled image
+-- while an open log is replayed: the files stand for the settled image, and what the log seals stays
 pub record IsSettling (start pair : Pair) : Type 0 where
   pub goes_on : CanGoOn pair
   pub stands_for : settled pair ≡ settled start
   pub same_length : length pair.0 ≡ length start.0
+  pub same_seal : sealed_in (head_in pair.1) pair.0 ≡ sealed_in (head_in pair.1) start.0
   pub same_elsewhere : SameElsewhere (log_size start) (logged start) start.0 pair.0
 
--- while the difference is written: the files stand for the image as it is, or for the mended one
+-- while the difference is written: the files stand for the image as it is, or for the mended one, and what the log seals stays
 pub record IsMending (size : ℕ) (image : List ℕ) (pair : Pair) : Type 0 where
   pub goes_on : CanGoOn pair
   pub stands_for : (settled pair ≡ image) ⊎ (settled pair ≡ mended size image)
   pub same_length : length pair.0 ≡ length image
+  pub same_seal : sealed_in (head_in pair.1) pair.0 ≡ sealed_in (head_in pair.1) image
   pub same_elsewhere : SameElsewhere size (plan_of size image (mended size image)) image pair.0
 
 -- the files after the difference was written

@@ -14,12 +14,12 @@ set_gate-requires-clause-some g c tells = some_open _ _ (c.requires.log tells)
 pub returns-in_err-set_gate-clause-moments : goal.returns-in_err-set_gate-clause-moments
 returns-in_err-set_gate-clause-moments g c tells =
     let old = g.B.Bench.held c.args.bench.now in
-    leaves_weaker old _ (IsGated (bytes_of Image old) (drop 1 (bytes_of Side old))) (IsClosing (bytes_of Image old)) (closing _ _ (c.requires.log tells) (c.requires.done tells)) (c.set_gate.ensures.moments tells)
+    leaves_weaker old _ (IsGated (bytes_of Image old) (drop 1 (bytes_of Side old))) (IsClosing (bytes_of Side old) (bytes_of Image old)) (closing _ _ (c.requires.log tells) (c.requires.done tells)) (c.set_gate.ensures.moments tells)
 
 pub returns-clause-moments : goal.returns-clause-moments
 returns-clause-moments g c tells =
     let old = g.B.Bench.held c.args.bench.now in
-    leaves_weaker old _ (IsGated (bytes_of Image old) (drop 1 (bytes_of Side old))) (IsClosing (bytes_of Image old)) (closing _ _ (c.requires.log tells) (c.requires.done tells)) (c.set_gate.ensures.moments tells)
+    leaves_weaker old _ (IsGated (bytes_of Image old) (drop 1 (bytes_of Side old))) (IsClosing (bytes_of Side old) (bytes_of Image old)) (closing _ _ (c.requires.log tells) (c.requires.done tells)) (c.set_gate.ensures.moments tells)
 
 pub returns-clause-closed : goal.returns-clause-closed
 returns-clause-closed g c tells =

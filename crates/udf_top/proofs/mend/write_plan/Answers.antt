@@ -5,8 +5,17 @@ use Rattle.udf_volume_model.specs.Plans.{ClimbsFrom}
 use Rattle.udf_redo.specs.Log.{Edit}
 use Rattle.udf_redo.specs.declared.head.LogHead.{LogHead}
 use Rattle.udf_redo.proofs.Logged.{size_cases}
-use Rattle.udf_top.proofs.Stepping.{IsWritten, until_open, until_put, until_closed, open_applied, done_on}
+use Rattle.udf_outside.proofs.Runs.{leaves_weaker}
+use Rattle.udf_redo.specs.Runs.{IsLogging}
+use Rattle.udf_top.specs.Steps.{IsMending}
+use Rattle.udf_top.proofs.Stepping.{logging, IsWritten, until_open, until_put, until_closed, open_applied, done_on}
 use Rattle.udf_top.proofs.mend.write_plan.Goals as goal
+
+pub returns-in_err-write_log-clause-moments : goal.returns-in_err-write_log-clause-moments
+returns-in_err-write_log-clause-moments g c tells =
+    let start = g.B.Bench.held c.args.bench.now in
+    leaves_weaker start _ (IsLogging (bytes_of Image start)) (IsMending c.args.volume.now.size (bytes_of Image start))
+    (logging c.args.volume.now.size (bytes_of Image start)) (c.write_log.ensures.moments tells)
 
 pub returns-in_err-open_gate-clause-moments : goal.returns-in_err-open_gate-clause-moments
 returns-in_err-open_gate-clause-moments g c tells =
