@@ -1,27 +1,45 @@
 #!/bin/sh
-# Runs a built udffsck on damaged copies of the sample volume, as files, and compares what it prints and its status.
+# Runs a built udffsck on damaged copies of the sample volume, as files: checks, repairs, and repairs that were stopped. It
+# compares what is printed, the status, and what both files hold afterwards.
 # usage: files.sh PROGRAM SAMPLE
 program=$(realpath "$1")
 sample=$(realpath "$2")
 work=$(mktemp -d) || exit 1
 trap 'rm -rf "$work"' EXIT
 cd "$work" || exit 1
+runs=0
+comparisons=0
 failed=0
-passed=0
 
-fresh() { cp "$sample" a.img && chmod u+w a.img; }
+# The volume that is damaged, and the bytes of its blocks.
+whole=$sample
+size=512
 
-# zero FIRST COUNT: so many blocks of 512 bytes hold zeros
-zero() { dd if=/dev/zero of=a.img bs=512 seek="$1" count="$2" conv=notrunc 2>/dev/null; }
+usage='udffsck: usage: udffsck -c|-p [-B SIZE] [--redo FILE] MEDIUM'
+clean='udffsck: a.img: clean'
+broken='udffsck: a.img: 1 broken'
+no_anchor='udffsck: a.img: refused, Anchor'
+protected='udffsck: a.img: refused, WriteProtected'
+not_a_log='udffsck: a.img.redo: not a log'
+bad_log='udffsck: a.img.redo: bad log'
+another_image='udffsck: a.img.redo: another image'
+
+# --- damage ---
+
+# fresh: a.img is the whole volume, with no side file
+fresh() { rm -f a.img.redo && cp "$whole" a.img && chmod u+w a.img; }
+
+# zero FIRST COUNT: so many blocks hold zeros
+zero() { dd if=/dev/zero of=a.img bs="$size" seek="$1" count="$2" conv=notrunc 2>/dev/null; }
 
 # byte BLOCK OFFSET OCTAL: one byte of a block
-byte() { printf "\\$3" | dd of=a.img bs=1 seek=$(($1 * 512 + $2)) conv=notrunc 2>/dev/null; }
+byte() { printf "\\$3" | dd of=a.img bs=1 seek=$(($1 * size + $2)) conv=notrunc 2>/dev/null; }
 
-# copy FROM TO: a block becomes a copy of another
-copy() { dd if="$sample" of=a.img bs=512 skip="$1" seek="$2" count=1 conv=notrunc 2>/dev/null; }
+# copy FROM TO: a block becomes a copy of another of the whole volume
+copy() { dd if="$whole" of=a.img bs="$size" skip="$1" seek="$2" count=1 conv=notrunc 2>/dev/null; }
 
-# the checksum of the first megabyte, so that a sparse image of 2 TiB is not read whole
-sum_of() { head -c 1048576 "$1" 2>/dev/null | cksum; }
+# tear BLOCK: the first half of a block is that of the whole volume
+tear() { dd if="$whole" of=a.img bs=$((size / 2)) skip=$(($1 * 2)) seek=$(($1 * 2)) count=1 conv=notrunc 2>/dev/null; }
 
 # patch BLOCK OFFSET OCTAL..: bytes of a block, whose tag is then left without a CRC (CRC length and CRC 0), its checksum made anew
 patch() {
@@ -34,34 +52,196 @@ patch() {
     for at in 8 9 10 11; do byte "$block" "$at" 000; done
     total=0
     at=0
-    for number in $(dd if=a.img bs=512 skip="$block" count=1 2>/dev/null | head -c 16 | od -An -v -tu1); do
+    for number in $(od -An -v -tu1 -j $((block * size)) -N 16 a.img); do
         [ "$at" = 4 ] || total=$((total + number))
         at=$((at + 1))
     done
-    byte "$block" 4 "$(printf '%03o' $((total % 256)))"
+    byte "$block" 4 "$(octal "$total")"
 }
 
-# expect NAME STATUS LINES WORDS..: runs the program
-expect() {
+# octal N: the lowest byte of a number, in octal digits
+octal() { printf '%03o' $(($1 % 256)); }
+
+# spread SIZE: the whole volume is one with blocks of so many bytes and the sample's anchors and sequences
+spread() {
+    size=$1
+    whole=$work/whole.img
+    rm -f a.img a.img.redo && truncate -s $((1024 * size)) a.img
+    for block in 96 97 98 99 100 101 256 1007 1008 1009 1010 1011 1012 1023; do
+        dd if="$sample" of=a.img bs=512 skip="$block" seek=$((block * size / 512)) count=1 conv=notrunc 2>/dev/null
+    done
+    for block in 99 1010; do patch "$block" 212 000 "$(octal $((size / 256)))"; done
+    for block in 256 1023; do
+        for at in 16 24; do patch "$block" "$at" 000 "$(octal $((size / 16)))" "$(octal $((size / 4096)))"; done
+    done
+    cp a.img "$whole"
+}
+
+# --- the log ---
+
+# number N: four bytes, the lowest first
+number() { printf "\\$(octal "$1")\\$(octal $(($1 / 256)))\\$(octal $(($1 / 65536)))\\$(octal $(($1 / 16777216)))"; }
+
+# seal FIRST: the SHA-256 digest of the five descriptors from a block on
+seal() {
+    digest=$(dd if="$whole" bs="$size" skip="$1" count=5 2>/dev/null | sha256sum | cut -c 1-64)
+    for digits in $(echo "$digest" | sed 's/../& /g'); do printf "\\$(octal 0x"$digits")"; done
+}
+
+# make_log FIRST SECTOR..: the file log is the closed log of these blocks of the whole volume; the kept sequence is that from FIRST
+make_log() {
+    first=$1
+    shift
+    {
+        printf '\000UDFREDO1'
+        for field in "$size" 1024 "$first" 5; do number "$field"; done
+        seal "$first"
+        number $#
+        for sector in "$@"; do
+            number "$sector"
+            dd if="$whole" bs="$size" skip="$sector" count=1 2>/dev/null
+        done
+    } >log
+}
+
+# leave_open: the side file is the file log with its gate open
+leave_open() { cp log a.img.redo && printf 'O' | dd of=a.img.redo bs=1 conv=notrunc 2>/dev/null; }
+
+# gate: the first byte of the side file
+gate() { od -An -tx1 -N 1 a.img.redo | tr -d ' '; }
+
+# starts_with_log: so the side file does; what an older, longer log left behind it stands still
+starts_with_log() { head -c "$(stat -c %s log)" a.img.redo | cmp -s - log; }
+
+# --- runs ---
+
+# the checksum of the first megabyte, so that a sparse image of 2 TiB is not read whole
+sum_of() { head -c 1048576 "$1" 2>/dev/null | cksum; }
+
+# run NAME STATUS LINES WORDS..: a run of the program must print the lines and end with the status
+run() {
     name=$1 status=$2 lines=$3
     shift 3
-    before=$(sum_of a.img)
     printed=$("$program" "$@" 2>error)
     answer=$?
-    if [ "$printed" = "$lines" ] && [ "$answer" = "$status" ] && [ ! -s error ] && [ "$before" = "$(sum_of a.img)" ]; then
-        passed=$((passed + 1))
-    else
+    runs=$((runs + 1))
+    if [ "$printed" != "$lines" ] || [ "$answer" != "$status" ] || [ -s error ]; then
         failed=$((failed + 1))
         printf '%s: status %s, printed:\n%s\n' "$name" "$answer" "$printed"
     fi
 }
 
-check() { expect "$1" "$2" "$3" -c -B 512 a.img; }
+# holds TEXT COMMAND..: after the last run the command must succeed
+holds() {
+    text=$1
+    shift
+    comparisons=$((comparisons + 1))
+    if ! "$@"; then
+        failed=$((failed + 1))
+        printf '%s: it does not hold that %s\n' "$name" "$text"
+    fi
+}
 
-usage='udffsck: usage: udffsck -c|-p [-B SIZE] [--redo FILE] MEDIUM'
-clean='udffsck: a.img: clean'
-broken='udffsck: a.img: 1 broken'
-no_anchor='udffsck: a.img: refused, Anchor'
+# expect NAME STATUS LINES WORDS..: a run that leaves the image and makes no side file
+expect() {
+    before=$(sum_of a.img)
+    run "$@"
+    holds 'the image is as it was' [ "$before" = "$(sum_of a.img)" ]
+    holds 'no side file was made' [ ! -e a.img.redo ]
+}
+
+check() { expect "$1" "$2" "$3" -c -B "$size" a.img; }
+
+# keep: remembers both files, and makes them old, so that any write to them shows
+keep() {
+    rm -rf kept && mkdir kept
+    for file in a.img a.img.redo; do
+        if [ -f "$file" ]; then touch -d @0 "$file" && cp -p "$file" kept; fi
+    done
+}
+
+# is_kept FILE: it holds what it held, and was not written
+is_kept() { cmp -s "$1" "kept/$1" && [ "$(stat -c %Y "$1")" = 0 ]; }
+
+is_empty() { [ -f "$1" ] && [ ! -s "$1" ]; }
+
+# side_is_kept: so is the side file, or it was missing and is now empty
+side_is_kept() { if [ -e kept/a.img.redo ]; then is_kept a.img.redo; else is_empty a.img.redo; fi; }
+
+# unwritten NAME STATUS LINES: a repair that writes neither file
+unwritten() {
+    keep
+    run "$1" "$2" "$3" -p -B "$size" a.img
+    holds 'the image is as it was' is_kept a.img
+    holds 'the side file is as it was' side_is_kept
+}
+
+# ends_whole: after the last run the image is whole, the log closed, and there is nothing to do for another run
+ends_whole() {
+    holds 'the image is the whole volume' cmp -s a.img "$whole"
+    holds 'the side file is the closed log' starts_with_log
+    unwritten "$name, again" 0 "$clean"
+}
+
+# mended NAME LINES FIRST SECTOR..: a repair that tells these findings and writes these blocks
+mended() {
+    told=$1 findings=$2
+    shift 2
+    make_log "$@"
+    run "$told" 1 "$findings
+udffsck: a.img: repairing $(($# - 1)) blocks" -p -B "$size" a.img
+    ends_whole
+}
+
+# settled NAME COUNT: a repair that ends what an earlier one began
+settled() {
+    run "$1" 1 "udffsck: a.img: replayed $2 blocks
+$clean" -p -B "$size" a.img
+    ends_whole
+}
+
+# is_stop STATUS: that of a kill at a write past the limit, or of a fault of the device, which it is where the signal is ignored
+is_stop() { [ "$1" = 8 ] || [ "$(kill -l "$1")" = XFSZ ]; }
+
+# limited LIMIT: a repair that the system kills at a write past so many times 512 bytes of a file (some shells count by 1,024)
+limited() {
+    (ulimit -c 0; ulimit -f "$1" && exec "$program" -p -B "$size" a.img)
+    return $?
+}
+
+# stopped NAME LINES LIMIT: a limited repair prints the lines and is stopped
+stopped() {
+    name=$1
+    printed=$(limited "$3" 2>error)
+    answer=$?
+    runs=$((runs + 1))
+    holds 'the lines are printed' [ "$printed" = "$2" ]
+    holds 'the run is stopped' is_stop "$answer"
+}
+
+# killed CALL K: a repair is killed at its Kth call of this kind to the system; it fails where there are fewer
+killed() {
+    strace -f -o /dev/null -e "inject=$1:signal=KILL:when=$2" "$program" -p -B "$size" a.img >/dev/null
+    [ $? = 137 ]
+}
+
+# sweep CALL: a repair of the first sequence and the last anchor, killed at each of its calls of this kind, and run again
+sweep() {
+    call=$1
+    turn=1
+    while fresh && zero 96 16 && zero 1023 1 && killed "$call" "$turn" 2>error; do
+        name="killed at $call $turn, run again"
+        "$program" -p -B "$size" a.img >/dev/null 2>error
+        answer=$?
+        runs=$((runs + 2))
+        holds 'the status is 0 or 1' [ "$answer" -le 1 ]
+        ends_whole
+        turn=$((turn + 1))
+    done
+    name="a kill at each $call"
+}
+
+# --- checks ---
 
 fresh; check 'sample volume' 0 "$clean"
 : >a.img; check 'empty file' 4 "$no_anchor"
@@ -118,14 +298,173 @@ fresh; patch 1007 12 001 000; patch 1008 12 002 000; check 'reserve tags at othe
 fresh; copy 98 101; byte 101 16 011; patch 101 184 003; check 'main has a later partition descriptor' 4 "V3 -:1007 5 6
 $broken"
 
-rm -f a.img; check 'a file that is not there' 8 ''
-mkdir a.img; check 'a directory' 8 ''; rmdir a.img
+# --- repairs ---
+
+fresh; unwritten 'repair of the sample volume' 0 "$clean"
+fresh; zero 256 1; mended 'first anchor zero, repaired' 'V2 -:256 1 2' 96 256
+holds 'the log has 577 bytes' [ "$(stat -c %s a.img.redo)" = 577 ]
+begins=005544465245444f3100020000000400006000000005000000
+holds "the log begins with $begins" [ "$(od -An -v -tx1 -N 25 a.img.redo | tr -d ' \n')" = $begins ]
+fresh; zero 1023 1; mended 'last anchor zero, repaired' 'V2 -:1023 1 2' 96 1023
+fresh; zero 96 16; mended 'main sequence zero, repaired' 'V3 -:96 0 5' 1007 96 97 98 99 100 101
+fresh; zero 1007 16; mended 'reserve sequence zero, repaired' 'V3 -:1007 0 5' 96 1007 1008 1009 1010 1011 1012
+fresh; zero 256 1; zero 96 16; mended 'first anchor and main sequence zero, repaired' 'V2 -:256 1 2
+V3 -:96 0 5' 1007 96 97 98 99 100 101 256
+fresh; byte 98 200 001; mended 'main partition descriptor spoilt, repaired' 'V3 -:96 2 5' 1007 98
+fresh; patch 1007 60 003; mended 'reserve primary says otherwise, repaired' 'V3 -:1007 5 5' 96 1007
+
+# Data in the partition and a part block behind the last one stay.
+fresh; seq 1 20000 | dd of=a.img bs=512 seek=400 count=200 conv=notrunc 2>/dev/null
+printf 'a part block' >>a.img; cp a.img data.img; whole=$work/data.img
+zero 256 1; mended 'first anchor zero beside data, repaired' 'V2 -:256 1 2' 96 256
+whole=$sample
+
+fresh; zero 96 16; zero 1007 16; unwritten 'repair of both sequences zero' 4 'udffsck: a.img: refused, Sequence'
+: >a.img; rm -f a.img.redo; unwritten 'repair of an empty file' 4 "$no_anchor"
+fresh; patch 99 218 130; unwritten 'repair of another domain' 4 'udffsck: a.img: refused, Profile Domain'
+fresh; patch 98 64 165; unwritten 'repair of a bitmap of 117 bytes' 4 'udffsck: a.img: refused, Layout'
+fresh; patch 99 242 001; unwritten 'repair under hard write protection' 4 "$protected"
+fresh; patch 99 242 002; unwritten 'repair under soft write protection' 4 "$protected"
+fresh; patch 98 184 001; unwritten 'repair of a partition to be read only' 4 "$protected"
+fresh; patch 98 184 002; unwritten 'repair of a partition to be written once' 4 "$protected"
+fresh; patch 98 184 003; patch 1009 184 003; unwritten 'repair of a rewritable partition' 0 "$clean"
+fresh; patch 98 184 001; patch 1009 184 001; check 'check of a partition to be read only' 0 "$clean"
+: >a.img; rm -f a.img.redo; truncate -s 2199023255552 a.img
+run 'repair of 2 TiB, sparse' 4 'udffsck: a.img: refused, TooLarge' -p -B 512 a.img
+rm -f a.img
+
+# --- side files ---
+
+fresh; : >a.img.redo; unwritten 'empty side file' 0 "$clean"
+fresh; printf hello >a.img.redo; unwritten 'side file hello' 0 "$clean"
+zero 256 1; mended 'side file hello, repaired' 'V2 -:256 1 2' 96 256
+fresh; zero 256 1; printf 123456789 >a.img.redo; mended 'side file of nine bytes' 'V2 -:256 1 2' 96 256
+fresh; zero 256 1; printf helloworld >a.img.redo; unwritten 'side file helloworld' 12 "$not_a_log"
+fresh; zero 256 1; printf 'OUDFREDO1x' >a.img.redo; unwritten 'side file of a gate, a name and a byte' 12 "$bad_log"
+fresh; zero 256 1; printf '\000UDFREDO1x' >a.img.redo; mended 'closed side file of a name and a byte' 'V2 -:256 1 2' 96 256
+zero 1007 16; mended 'side file of a shorter log' 'V3 -:1007 0 5' 96 1007 1008 1009 1010 1011 1012
+zero 256 1; mended 'side file of a longer log' 'V2 -:256 1 2' 96 256
+holds 'the longer log is not cut' [ "$(stat -c %s a.img.redo)" = 3157 ]
+
+fresh; zero 256 1; run 'another side file' 1 'V2 -:256 1 2
+udffsck: a.img: repairing 1 blocks' -p -B 512 --redo other.log a.img
+holds 'the image is the whole volume' cmp -s a.img "$whole"
+holds 'the named file is the log' cmp -s other.log log
+holds 'no other side file was made' [ ! -e a.img.redo ]
+printf 'O' | dd of=other.log bs=1 conv=notrunc 2>/dev/null; zero 256 1
+run 'another side file, open' 1 "udffsck: a.img: replayed 1 blocks
+$clean" -p -B 512 --redo other.log a.img
+holds 'the image is the whole volume' cmp -s a.img "$whole"
+holds 'the log is closed' cmp -s other.log log
+
+fresh; expect 'side file is the medium' 16 'udffsck: a.img: side file is the medium' -p -B 512 --redo a.img a.img
+expect 'side file is the medium by another name' 12 'udffsck: ./a.img: not a log' -p -B 512 --redo ./a.img a.img
+expect 'side file is a folder' 8 '' -p -B 512 --redo . a.img
+expect 'side file in a folder that is not there' 8 '' -p -B 512 --redo missing/a.redo a.img
+zero 256 1; expect 'side file that takes no byte' 8 'V2 -:256 1 2
+udffsck: a.img: repairing 1 blocks' -p -B 512 --redo /dev/full a.img
+
+# --- stops ---
+
+make_log 96 256
+fresh; zero 256 1; tear 256; leave_open; settled 'stopped in block 256' 1
+fresh; leave_open; settled 'stopped before the gate was closed' 1
+fresh; zero 256 1; leave_open; truncate -s 70 a.img.redo; unwritten 'open log cut short' 12 "$bad_log"
+fresh; truncate -s 523776 a.img; leave_open; unwritten 'open log beside an image of 1,023 blocks' 12 "$another_image"
+fresh; patch 97 60 003; leave_open; unwritten 'open log beside another kept sequence' 12 "$another_image"
+fresh; zero 256 1; cp log a.img.redo; truncate -s 70 a.img.redo; mended 'stopped in the log' 'V2 -:256 1 2' 96 256
+fresh; zero 256 1; zero 1007 16; leave_open; run 'replayed, and then repaired' 1 'udffsck: a.img: replayed 1 blocks
+V3 -:1007 0 5
+udffsck: a.img: repairing 6 blocks' -p -B 512 a.img
+holds 'the image is the whole volume' cmp -s a.img "$whole"
+make_log 96 256; fresh; zero 256 1; leave_open; run 'replayed at another block size' 4 "udffsck: a.img: replayed 1 blocks
+$no_anchor" -p -B 2048 a.img
+holds 'the image is the whole volume' cmp -s a.img "$whole"
+
+make_log 1007 96 97 98 99 100 101
+for written in 0 1 2 3 4 5 6; do
+    fresh; zero 96 16
+    for block in 96 97 98 99 100 101; do
+        if [ "$block" -lt $((96 + written)) ]; then copy "$block" "$block"; fi
+    done
+    tear $((96 + written)); leave_open; settled "stopped after $written of 6 blocks" 6
+done
+
+findings='V2 -:1023 1 2
+V3 -:96 0 5'
+told_first="$findings
+udffsck: a.img: repairing 7 blocks"
+fresh; zero 96 16; zero 1023 1; keep; stopped 'killed in the log' "$told_first" 1
+holds 'the image is as it was' is_kept a.img
+holds 'the gate is closed' [ "$(gate)" = 00 ]
+mended 'killed in the log, run again' "$findings" 1007 96 97 98 99 100 101 1023
+fresh; zero 96 16; zero 1023 1; stopped 'killed in the image' "$told_first" 256
+holds 'the gate is open' [ "$(gate)" = 4f ]
+run 'check after the kill' 4 "V2 -:1023 1 2
+$broken" -c -B 512 a.img
+stopped 'killed in the replay' '' 256
+holds 'the gate is open' [ "$(gate)" = 4f ]
+settled 'killed twice, run again' 7
+
+# The lines, the front and the body of the log, the gate twice, and seven blocks are at least twelve writes.
+make_log 1007 96 97 98 99 100 101 1023
+if strace -o /dev/null true 2>/dev/null; then
+    sweep write; holds 'there are twelve writes' [ "$turn" -gt 12 ]
+    sweep fsync; holds 'there are five syncs' [ "$turn" -gt 5 ]
+else
+    echo 'skipped without strace: a kill at each write and each sync'
+fi
+
+# --- block sizes ---
+
+for bytes in 1024 2048 4096; do
+    spread "$bytes"
+    check "blocks of $bytes bytes" 0 "$clean"
+    fresh; unwritten "blocks of $bytes bytes, repair" 0 "$clean"
+    fresh; zero 256 1; mended "blocks of $bytes bytes, first anchor zero" 'V2 -:256 1 2' 96 256
+    tear 256; leave_open; settled "blocks of $bytes bytes, stopped" 1
+    fresh; zero 96 16; mended "blocks of $bytes bytes, main sequence zero" 'V3 -:96 0 5' 1007 96 97 98 99 100 101
+done
+size=512
+whole=$sample
+fresh
+expect 'checked at another block size' 4 "$no_anchor" -c -B 2048 a.img
+run 'repaired at another block size' 4 "$no_anchor" -p -B 4096 a.img
+holds 'the image is the whole volume' cmp -s a.img "$whole"
+
+# --- files and words ---
+
+rm -f a.img a.img.redo; check 'a file that is not there' 8 ''
+expect 'repair of a file that is not there' 8 '' -p -B 512 a.img
+mkdir a.img; check 'a directory' 8 ''; expect 'repair of a directory' 8 '' -p -B 512 a.img; rmdir a.img
+if [ "$(id -u)" = 0 ]; then
+    echo 'skipped as root: an image and a side file that may not be written'
+else
+    fresh; zero 256 1; chmod 444 a.img; expect 'repair of an image that may not be written' 8 '' -p -B 512 a.img
+    chmod 644 a.img; : >a.img.redo; chmod 444 a.img.redo; unwritten 'side file that may not be written' 8 ''; chmod 644 a.img.redo
+fi
+fresh; zero 256 1; keep
+"$program" -p -B 512 a.img >/dev/full 2>error; answer=$?
+runs=$((runs + 1)) name='output that takes no byte'
+holds 'the status is 8' [ "$answer" = 8 ]
+holds 'the image is as it was' is_kept a.img
+holds 'the side file is empty' is_empty a.img.redo
+
 fresh
 expect 'no words' 16 "$usage"
 expect 'another size' 16 "$usage" -c -B 513 a.img
 expect 'no size' 16 "$usage" -c a.img
 expect 'a medium like an option' 16 "$usage" -c -B 512 -a.img
 expect 'a word too many' 16 "$usage" -c -B 512 a.img b.img
+expect 'repair at another size' 16 "$usage" -p -B 8192 a.img
+expect 'a size with a zero before it' 16 "$usage" -p -B 0512 a.img
+expect 'repair with no size' 16 "$usage" -p a.img
+expect 'check and repair' 16 "$usage" -c -p -B 512 a.img
+expect 'a side file at a check' 16 "$usage" -c -B 512 --redo a.img.redo a.img
+expect 'a side file before the size' 16 "$usage" -p --redo a.img.redo -B 512 a.img
+expect 'a side file behind the medium' 16 "$usage" -p -B 512 a.img --redo a.img.redo
+expect 'a side file and no medium' 16 "$usage" -p -B 512 --redo a.img.redo
+expect 'a medium like an option, at a repair' 16 "$usage" -p -B 512 --redo a.img.redo -a.img
 
-echo "$passed passed, $failed failed"
+echo "$runs runs, $comparisons comparisons of files, $failed failed"
 [ "$failed" = 0 ]

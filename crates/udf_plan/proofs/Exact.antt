@@ -113,7 +113,7 @@ changes_alike disk after next (x ∷ xs) h =
     ∙ sym (changes_both disk next (x ∷ []) xs)
 
 -- a test parts a list in two
-parted : (test : ℕ → Bool) (xs : List ℕ) → length (filter test xs) + length (filter (λ x. not (test x)) xs) ≡ length xs
+pub parted : (test : ℕ → Bool) (xs : List ℕ) → length (filter test xs) + length (filter (λ x. not (test x)) xs) ≡ length xs
 parted test [] = refl
 parted test (x ∷ xs) = by_test (test x) (parted test xs) where
   by_test : (b : Bool) → length (filter test xs) + length (filter (λ x. not (test x)) xs) ≡ length xs
@@ -121,7 +121,8 @@ parted test (x ∷ xs) = by_test (test x) (parted test xs) where
   by_test true e = omega (arith, e)
   by_test false e = omega (arith, e)
 
-none_fails : (test : ℕ → Bool) (xs : List ℕ) → list_all test xs ≡ eqb (length (filter (λ x. not (test x)) xs)) 0
+-- a test fails for none exactly where it passes for all
+pub none_fails : (test : ℕ → Bool) (xs : List ℕ) → list_all test xs ≡ eqb (length (filter (λ x. not (test x)) xs)) 0
 none_fails test [] = refl
 none_fails test (x ∷ xs) = by_test (test x) (none_fails test xs) where
   by_test : (b : Bool) → list_all test xs ≡ eqb (length (filter (λ x. not (test x)) xs)) 0

@@ -14,30 +14,15 @@ use Rattle.udf_volume.specs.Areas.{anchor_stated}
 use Rattle.udf_volume_model.proofs.Listed.{listed_is}
 use Rattle.udf_volume.proofs.KeptList.{kept_front}
 use Rattle.udf_volume.proofs.Described.{Describes, opened_ok, blocks_is, anchor_is, limit_is, areas_is, kept_is, other_is}
+use Rattle.udf_plan.proofs.Exact.{parted, none_fails}
 use Rattle.udf_top.specs.declared.finding.Place.TheVariants.{Sector}
 use Rattle.udf_top.specs.Found.{finding_of, findings_by, findings_in, anchor_report, sequence_report}
-use Rattle.udf_top.specs.Reported.{eligible_stated, unspoilt, anchors_reported, sequences_reported}
+use Rattle.udf_plan.specs.Stated.{eligible_stated}
+use Rattle.udf_top.specs.Reported.{unspoilt, anchors_reported, sequences_reported}
 
 map-map : (f : ℕ → Found) (xs : List ℕ) → map finding_of (map f xs) ≡ map (λ x. finding_of (f x)) xs
 map-map f [] = refl
 map-map f (x ∷ xs) = ap (λ l. finding_of (f x) ∷ l) (map-map f xs)
-
--- a test parts a list in two
-parted : (test : ℕ → Bool) (xs : List ℕ) → length (filter test xs) + length (filter (λ x. not (test x)) xs) ≡ length xs
-parted test [] = refl
-parted test (x ∷ xs) = by_test (test x) (parted test xs) where
-  by_test : (b : Bool) → length (filter test xs) + length (filter (λ x. not (test x)) xs) ≡ length xs
-      → length (cond b (x ∷ filter test xs) (filter test xs)) + length (cond (not b) (x ∷ filter (λ x. not (test x)) xs) (filter (λ x. not (test x)) xs)) ≡ suc (length xs)
-  by_test true e = omega (arith, e)
-  by_test false e = omega (arith, e)
-
-none_fails : (test : ℕ → Bool) (xs : List ℕ) → list_all test xs ≡ eqb (length (filter (λ x. not (test x)) xs)) 0
-none_fails test [] = refl
-none_fails test (x ∷ xs) = by_test (test x) (none_fails test xs) where
-  by_test : (b : Bool) → list_all test xs ≡ eqb (length (filter (λ x. not (test x)) xs)) 0
-      → (b && list_all test xs) ≡ eqb (length (cond (not b) (x ∷ filter (λ x. not (test x)) xs) (filter (λ x. not (test x)) xs))) 0
-  by_test true e = e
-  by_test false e = grind arith
 
 module _ (size blocks : ℕ) (disk : ℕ → List ℕ) (v : Volume) where
   abbrev E : List ℕ

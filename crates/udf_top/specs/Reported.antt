@@ -1,21 +1,13 @@
 -- What the code reports of a volume, by its fields.
-use Rattle.std.specs.Prelude.{ℕ, not, List, length, filter, if◌then◌else◌, Option, Some, None}
-use Rattle.udf_model.specs.Image.{block_of}
+use Rattle.std.specs.Prelude.{ℕ, List, length, if◌then◌else◌, Option, Some, None}
 use Rattle.udf_volume_model.specs.Sequence.{View, Descriptor, front_of, is_spoilt}
 use Rattle.udf_volume_model.specs.Kept.{whole_by}
-use Rattle.udf_volume_model.specs.Rules.{ascending_places, is_eligible, is_good, agrees}
-use Rattle.udf_volume.specs.Areas.{anchor_stated, areas_stated}
+use Rattle.udf_volume_model.specs.Rules.{agrees}
 use Rattle.udf_volume.specs.Spans.{kept_span, other_span, limit_stated, said_in}
 use Rattle.udf_volume.specs.declared.volume.Volume.{Volume}
+use Rattle.udf_plan.specs.Stated.{eligible_stated, bad_stated}
 use Rattle.udf_top.specs.declared.finding.Finding.{Finding}
 use Rattle.udf_top.specs.Found.{anchor_report, sequence_report}
-
-abbrev pub eligible_stated : Volume → List ℕ
-eligible_stated volume = filter (is_eligible (areas_stated volume)) (ascending_places volume.blocks)
-
-abbrev pub bad_stated : Volume → List ℕ → List ℕ
-bad_stated volume image =
-    filter (λ place. not (is_good (anchor_stated volume) place (block_of volume.size image place))) (eligible_stated volume)
 
 unfoldable pub anchors_reported : Volume → List ℕ → List Finding
 anchors_reported volume image = anchor_report (eligible_stated volume) (bad_stated volume image)

@@ -1,6 +1,7 @@
-//! The top calls of the tools, over a bench and a sink: the words of a command line, what an image lacks, the rules, and
-//! the lines that are printed. Towards the programs: `run_udffsck` answers an outcome and has put exactly its lines;
-//! `status` is the number with which a program ends. It stands on volumes and on the outside.
+//! The top calls of the tools, over a bench and a sink: the words of a command line, what an image lacks, the rules, the
+//! repair, and the lines that are printed. Towards the programs: `run_udffsck` answers an outcome, has put exactly its lines,
+//! and ends a repair in the one image of its files, however often it is stopped and begun again; `status` is the number with
+//! which a program ends. It stands on volumes, plans, the redo log and the outside.
 #![tactic(auto)]
 
 mod check;

@@ -1,5 +1,5 @@
-//! `udffsck`: checks an image of the Universal Disk Format. It makes the real bench and sink, makes the top call, and ends
-//! with the status of its outcome. It stands on the top calls.
+//! `udffsck`: checks or repairs an image of the Universal Disk Format. It makes the real bench and sink, makes the top call,
+//! and ends with the status of its outcome. It stands on the top calls.
 #![tactic(auto)]
 
 use std::process::ExitCode;
