@@ -1,13 +1,13 @@
 -- What words ask for decides what a run answers and prints.
-use Rattle.std.proofs.Common.{◌≡◌, ℕ, zero, suc, ◌++◌, refl, sym, ◌∙◌, ap, subst, List, [], Option, Some, None, Result, Ok, Err, take}
+use Rattle.std.proofs.Common.{◌≡◌, ℕ, zero, suc, ◌++◌, refl, sym, ◌∙◌, ap, subst, List, [], Option, Some, None, Result, take}
 use Rattle.std.proofs.lemmas.List.{append-nil}
 use Rattle.udf_outside.specs.Stops.{Pair}
 use Rattle.udf_top.specs.declared.outcome.Cause.{Cause}
 use Rattle.udf_top.specs.declared.outcome.Outcome.{Outcome}
 use Rattle.udf_top.specs.declared.outcome.Outcome.TheVariants as outcome
-use Rattle.udf_top.specs.Words.{Command, Repair, command_in, beside, repair_by, repair_in}
+use Rattle.udf_top.specs.Words.{Command, Repair, command_in, repair_by, repair_in}
 use Rattle.udf_top.specs.Texts.{text_of}
-use Rattle.udf_top.specs.Udffsck.{outcome_beside, outcome_by, outcome_of, said_beside, said_by, output_of, text_by, HasEnded, HoldsFront}
+use Rattle.udf_top.specs.Udffsck.{outcome_by, outcome_of, said_by, output_of, text_by, HasEnded, HoldsFront}
 use Rattle.udf_top.proofs.Outcomes.{nothing_of}
 
 module _ (words : List (List ℕ)) (read : Result Command Cause) (is : command_in words ≡ read) where

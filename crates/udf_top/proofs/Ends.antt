@@ -12,14 +12,14 @@ use Rattle.udf_volume.specs.declared.volume.Volume.{Volume}
 use Rattle.udf_volume.specs.Writable.{opened_writable}
 use Rattle.udf_redo.specs.declared.stop.RedoStop.{RedoStop}
 use Rattle.udf_redo.specs.declared.stop.RedoStop.TheVariants as stop
-use Rattle.udf_redo.specs.Settled.{settled, IsOpenLog, IsFree, CanGoOn}
+use Rattle.udf_redo.specs.Settled.{settled, IsFree, CanGoOn}
 use Rattle.udf_redo.specs.Faults.{Answers}
 use Rattle.udf_top.specs.declared.finding.Finding.{Finding}
 use Rattle.udf_top.specs.declared.outcome.Outcome.{Outcome}
 use Rattle.udf_top.specs.declared.outcome.Outcome.TheVariants as outcome
 use Rattle.udf_top.specs.Found.{findings_in}
 use Rattle.udf_top.specs.Texts.{text_of, replayed_text}
-use Rattle.udf_top.specs.Repairing.{replaying, refused_log, repaired_as, mend_of, mend_said, written_in, repair_from, repair_of, said_from, repair_said, target}
+use Rattle.udf_top.specs.Repairing.{replaying, refused_log, repaired_as, mend_of, mend_said, written_in, repair_from, repair_of, said_from, repair_said}
 use Rattle.udf_top.specs.Headline.{IsDone, HasRepaired, HasRepairedOrFailed, HasOpenedNoGate, IsSafe, Repairs}
 use Rattle.udf_top.specs.Steps.{IsSettling, IsMending, IsMended, Mends, Says}
 use Rattle.udf_top.specs.Udffsck.{said_beside, HasEnded, HoldsFront}

@@ -1,5 +1,5 @@
 -- What is reported of a volume of the image is what the rules find.
-use Rattle.std.proofs.Common.{◌≡◌, ℕ, suc, ◌+◌, ◌-◌, arith, refl, sym, ◌∙◌, ap, List, [], ◌∷◌, ◌++◌, length, map, filter, Bool, true, false, not, cond, ◌||◌, ◌&&◌, Some, None, Ok, eqb, leb}
+use Rattle.std.proofs.Common.{◌≡◌, ℕ, ◌-◌, arith, refl, sym, ◌∙◌, ap, List, [], ◌∷◌, ◌++◌, length, map, filter, Bool, true, false, not, cond, ◌||◌, Some, None, Ok, eqb, leb}
 use Rattle.std.specs.List.{list_all}
 use Rattle.udf_model.specs.Image.{block_of, blocks_in}
 use Rattle.udf_volume_model.specs.Sequence.{Descriptor, views, front_of, is_spoilt}

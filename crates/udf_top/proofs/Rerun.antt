@@ -1,12 +1,10 @@
 -- Repairs after repairs.
 use Rattle.std.proofs.Common.{◌≡◌, inl, inr, ℕ, List, [], ◌∷◌, refl, sym, ◌∙◌}
-use Rattle.std.proofs.Common.{Ok, Result}
+use Rattle.std.proofs.Common.{Ok}
 use Rattle.udf_outside.specs.declared.bench.Role.TheVariants.{Image, Side}
 use Rattle.udf_outside.specs.Stops.{Held, Pair, bytes_of, pair_of}
 use Rattle.udf_volume_laws.proofs.Twice.{stays}
-use Rattle.udf_redo.specs.declared.side.SideState.{SideState}
 use Rattle.udf_redo.specs.declared.side.SideState.TheVariants.{Empty, Closed, Open}
-use Rattle.udf_redo.specs.declared.stop.RedoStop.{RedoStop}
 use Rattle.udf_redo.specs.Log.{head_in}
 use Rattle.udf_redo.specs.Settled.{settled, IsOpenLog, IsFree}
 use Rattle.udf_volume_model.specs.Accepted.{mended}

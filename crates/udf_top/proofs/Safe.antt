@@ -2,14 +2,14 @@
 use Rattle.std.proofs.Common.{◌≡◌, ◌⊎◌, inl, inr, ⊎_elim, ◌≤◌, ℕ, List, length, get_or, refl, sym, ◌∙◌, ap, subst, Result, Ok, Err}
 use Rattle.udf_outside.specs.declared.bench.Role.TheVariants.{Image, Side}
 use Rattle.udf_outside.specs.Stops.{Held, Pair, bytes_of, pair_of, IsSettled, LeavesOnly}
-use Rattle.udf_outside.proofs.Runs.{leaves_same, leaves_weaker, leaves_then}
+use Rattle.udf_outside.proofs.Runs.{leaves_same, leaves_weaker}
 use Rattle.udf_volume_model.specs.Accepted.{mended, plan_of}
 use Rattle.udf_volume_laws.proofs.Twice.{mended_twice}
 use Rattle.udf_redo.specs.declared.side.SideState.{SideState}
 use Rattle.udf_redo.specs.declared.side.SideState.TheVariants.{Empty, Closed, Open}
 use Rattle.udf_redo.specs.declared.stop.RedoStop.{RedoStop}
 use Rattle.udf_redo.specs.Log.{state_of}
-use Rattle.udf_redo.specs.Settled.{settled, IsOpenLog, IsFree, CanGoOn, IsElsewhere}
+use Rattle.udf_redo.specs.Settled.{settled, IsOpenLog, CanGoOn, IsElsewhere}
 use Rattle.udf_redo.proofs.States.{settled_other}
 use Rattle.udf_top.specs.Repairing.{replaying, target, target_by}
 use Rattle.udf_top.specs.Headline.{IsSafe}

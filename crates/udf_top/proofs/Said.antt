@@ -1,6 +1,6 @@
 -- What was put of a text.
-use Rattle.std.proofs.Common.{◌≡◌, ℕ, zero, suc, ◌+◌, ◌≤◌, min, arith, ◌++◌, sym, ◌∙◌, ap, subst, List, [], length, Option, Some, take}
-use Rattle.std.proofs.lemmas.List.{append-nil, append_assoc, take_all, places, take-append-le, same_lists}
+use Rattle.std.proofs.Common.{◌≡◌, ℕ, ◌+◌, min, arith, ◌++◌, sym, ◌∙◌, ap, subst, List, length, Option, Some, take}
+use Rattle.std.proofs.lemmas.List.{append_assoc, take_all, places, same_lists}
 use Rattle.std.proofs.Math.Seq.{take-append-add}
 use Rattle.udf_top.specs.declared.outcome.Outcome.{Outcome}
 use Rattle.udf_top.specs.Steps.{Says}

@@ -1,5 +1,5 @@
 -- What a side file asks of a repair, and what a replay leaves of the files.
-use Rattle.std.proofs.Common.{◌≡◌, ◌≢◌, inl, inr, ℕ, ◌==◌, List, [], refl, sym, ◌∙◌, ap, subst, true, cond, Option, Some, None, Result, Ok, Err, OnOk}
+use Rattle.std.proofs.Common.{◌≡◌, ◌≢◌, inl, inr, ℕ, ◌==◌, List, [], refl, sym, ◌∙◌, ap, subst, true, Option, Some, None, Result, Ok, Err, OnOk}
 use Rattle.std.specs.Str.{bytes_eq}
 use Rattle.std.proofs.lemmas.Bool.{cond-true, and_parts, eqb-true}
 use Rattle.udf_model.specs.Image.{blocks_in}

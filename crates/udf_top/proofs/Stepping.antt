@@ -3,7 +3,7 @@ use Rattle.std.proofs.Common.{◌≡◌, inl, inr, ⊎_elim, ◌≤◌, ◌<◌,
 use Rattle.udf_outside.specs.declared.bench.Role.TheVariants.{Image, Side}
 use Rattle.udf_outside.specs.Stops.{Held, Pair, bytes_of, pair_of, moment, IsSettled, LeavesOnly}
 use Rattle.udf_outside.proofs.Moments.{seen_now, now_counts}
-use Rattle.udf_outside.proofs.Runs.{leaves_same, leaves_weaker, leaves_then}
+use Rattle.udf_outside.proofs.Runs.{leaves_weaker, leaves_then}
 use Rattle.udf_volume_model.specs.Accepted.{mended, plan_of}
 use Rattle.udf_volume_model.specs.Edits.{put_blocks}
 use Rattle.udf_volume_model.specs.Plans.{ClimbsFrom}

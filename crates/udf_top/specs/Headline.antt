@@ -1,5 +1,5 @@
 -- What a repair promises of its files, from the start of the run to its end.
-use Rattle.std.specs.Prelude.{◌≡◌, ◌⊎◌, ℕ, Bool, true, List, length, slice_index}
+use Rattle.std.specs.Prelude.{◌≡◌, ◌⊎◌, ℕ, true, length, slice_index}
 use Rattle.udf_outside.specs.declared.bench.Role.TheVariants.{Image, Side}
 use Rattle.udf_outside.specs.Stops.{Held, Pair, bytes_of, pair_of, IsSettled, LeavesOnly}
 use Rattle.udf_volume_model.specs.Accepted.{is_accepted, is_unbroken, plan_of}

@@ -1,5 +1,5 @@
 -- What `udffsck -p` answers and prints, and the image that it ends in.
-use Rattle.std.specs.Prelude.{◌≡◌, ℕ, zero, suc, if◌then◌else◌, List, [], ◌∷◌, ◌++◌, length, Result, Ok, Err}
+use Rattle.std.specs.Prelude.{ℕ, zero, suc, if◌then◌else◌, List, [], ◌∷◌, ◌++◌, length, Result, Ok, Err}
 use Rattle.udf_outside.specs.Stops.{Pair}
 use Rattle.udf_volume_model.specs.Accepted.{mended, difference}
 use Rattle.udf_volume.specs.declared.missing.Missing.{Missing}
@@ -10,7 +10,7 @@ use Rattle.udf_redo.specs.declared.side.SideState.TheVariants.{Empty, Closed, Op
 use Rattle.udf_redo.specs.declared.stop.RedoStop.{RedoStop}
 use Rattle.udf_redo.specs.declared.stop.RedoStop.TheVariants as stop
 use Rattle.udf_redo.specs.Log.{Edit, head_in, records_of, state_of, is_log_of}
-use Rattle.udf_redo.specs.Settled.{settled, applied_to, replay_answer}
+use Rattle.udf_redo.specs.Settled.{settled, replay_answer}
 use Rattle.udf_top.specs.declared.finding.Finding.{Finding}
 use Rattle.udf_top.specs.declared.outcome.Outcome.{Outcome}
 use Rattle.udf_top.specs.declared.outcome.Outcome.TheVariants as outcome

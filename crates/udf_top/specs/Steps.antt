@@ -14,6 +14,7 @@ use Rattle.udf_top.specs.declared.mend.Inspected.{Inspected}
 use Rattle.udf_top.specs.Words.{Repair}
 use Rattle.udf_top.specs.Found.{findings_in}
 use Rattle.udf_top.specs.declared.outcome.Outcome.{Outcome}
+use Rattle.udf_top.specs.declared.outcome.Outcome.TheVariants as outcome
 use Rattle.udf_top.specs.Repairing.{mend_of, logged, log_size}
 use Rattle.udf_top.specs.Headline.{HasRepaired, HasOpenedNoGate}
 use Rattle.udf_top.specs.Udffsck.{HasEnded, HoldsFront}
@@ -23,9 +24,9 @@ abbrev pub WasAsked : List ℕ → Files → Files → Type 0
 WasAsked name old new = (new.side ≡ old.side) ⊎ ((new.side.asked ≡ Some Create) × IfSome new.side.name (λ told. told ≡ name))
 
 -- A repair asked for the image by its name, for writing, and then for the side file; or, for want of memory, for nothing.
-abbrev pub AsksFor : Repair → Files → Files → Type 0
-AsksFor repair old new =
-    (new ≡ old)
+abbrev pub AsksFor : Repair → Outcome → Files → Files → Type 0
+AsksFor repair result old new =
+    ((result ≡ outcome.Memory) × (new ≡ old))
     ⊎ ((new.image.asked ≡ Some Write) × (IfSome new.image.name (λ told. told ≡ repair.medium) × WasAsked repair.side old new))
 
 -- nothing was asked for, and only the size of the side file may differ

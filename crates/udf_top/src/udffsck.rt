@@ -43,7 +43,7 @@ fn repair_beside<B: Bench, O: Sink>(
     ensures out { result ≡ Outcome.OutFault → Rose (O.faults out.old) (O.faults out.new) }
     ensures usage { (cause : Cause) → result ≡ Outcome.Usage cause → ⊥ }
     ensures asked { (repair : Repair) → beside (side_seen (Work.Repair named.entry) medium.now) size medium.now ≡ Some repair
-        → AsksFor repair (B.files bench.old) (B.files bench.new) }
+        → AsksFor repair result (B.files bench.old) (B.files bench.new) }
     ensures unasked { beside (side_seen (Work.Repair named.entry) medium.now) size medium.now ≡ None → B.files bench.new ≡ B.files bench.old }
     ensures held { beside (side_seen (Work.Repair named.entry) medium.now) size medium.now ≡ None → B.held bench.new ≡ B.held bench.old }
     ensures repairs { B.tells → (repair : Repair) → beside (side_seen (Work.Repair named.entry) medium.now) size medium.now ≡ Some repair
@@ -98,7 +98,7 @@ pub fn run_udffsck<B: Bench, O: Sink>(
         → ((B.files bench.new).image.asked ≡ Some Read) × (IfSome (B.files bench.new).image.name (λ told. told ≡ command.medium)
         × ((B.files bench.new).side ≡ (B.files bench.old).side)) }
     ensures repaired { (repair : Repair) → repair_in (map string_bytes words.now) ≡ Some repair
-        → AsksFor repair (B.files bench.old) (B.files bench.new) }
+        → AsksFor repair result (B.files bench.old) (B.files bench.new) }
     ensures unasked { repair_in (map string_bytes words.now) ≡ None → checks (command_in (map string_bytes words.now)) ≡ false
         → B.files bench.new ≡ B.files bench.old }
 

@@ -1,12 +1,11 @@
-use Rattle.std.proofs.Common.{◌≡◌, sym, ◌∙◌, ap, subst, List, ℕ}
+use Rattle.std.proofs.Common.{sym, ◌∙◌, ap, subst, List, ℕ}
 use Rattle.udf_outside.specs.Stops.{Held, bytes_of}
-use Rattle.udf_outside.specs.declared.bench.Role.TheVariants.{Image, Side}
+use Rattle.udf_outside.specs.declared.bench.Role.TheVariants.{Image}
 use Rattle.udf_top.specs.declared.finding.Finding.{Finding}
-use Rattle.udf_top.specs.declared.outcome.Outcome.{Outcome}
 use Rattle.udf_top.specs.declared.outcome.Outcome.TheVariants as outcome
 use Rattle.udf_top.specs.Texts.{mend_text}
 use Rattle.udf_top.specs.Repairing.{written_in, mend_said}
-use Rattle.udf_top.specs.Steps.{Mends, Says}
+use Rattle.udf_top.specs.Steps.{Says}
 use Rattle.udf_top.proofs.Mending.{clean_text, said_ok, said_refused, empty_is, mends_stopped, mends_refused, mends_unbroken}
 use Rattle.udf_top.proofs.Said.{says_same}
 use Rattle.udf_top.proofs.mend.mend.Goals as goal

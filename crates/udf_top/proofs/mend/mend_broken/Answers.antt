@@ -1,11 +1,9 @@
-use Rattle.std.proofs.Common.{◌≡◌, ◌≤◌, sym, ◌∙◌, ap, subst, List, ℕ, length}
+use Rattle.std.proofs.Common.{◌≡◌, ◌≤◌, sym, ◌∙◌, ap, subst, List, length}
 use Rattle.udf_outside.specs.Stops.{Held, bytes_of, LeavesOnly}
-use Rattle.udf_outside.specs.declared.bench.Role.TheVariants.{Image, Side}
+use Rattle.udf_outside.specs.declared.bench.Role.TheVariants.{Image}
 use Rattle.udf_volume_model.specs.Accepted.{mended, plan_of}
 use Rattle.udf_top.specs.declared.finding.Finding.{Finding}
-use Rattle.udf_top.specs.declared.outcome.Outcome.TheVariants as outcome
 use Rattle.udf_top.specs.Steps.{IsMending, IsMended}
-use Rattle.udf_top.specs.Udffsck.{HasEnded}
 use Rattle.udf_top.proofs.Mending.{opened_ok_as, accepted_ok, written_is, text_is, mends_stopped, mends_broken}
 use Rattle.udf_top.proofs.Said.{says_failed, says_whole, says_same}
 use Rattle.udf_top.proofs.mend.mend_broken.Goals as goal

@@ -1,5 +1,5 @@
-use Rattle.std.proofs.Common.{◌≡◌, sym, ◌∙◌, ap, subst, List, ℕ}
-use Rattle.udf_outside.specs.Stops.{Held, bytes_of}
+use Rattle.std.proofs.Common.{sym, ◌∙◌, ap, subst, List}
+use Rattle.udf_outside.specs.Stops.{bytes_of}
 use Rattle.udf_outside.specs.declared.bench.Role.TheVariants.{Image, Side}
 use Rattle.udf_volume_model.specs.Plans.{ClimbsFrom}
 use Rattle.udf_redo.specs.Log.{Edit}

@@ -1,12 +1,9 @@
-use Rattle.std.proofs.Common.{◌≡◌, ◌++◌, sym, ◌∙◌, ap, subst, List, ℕ, Result, Err}
-use Rattle.udf_outside.specs.Stops.{Held, Pair, bytes_of, pair_of, LeavesOnly, IsSettled}
-use Rattle.udf_outside.specs.declared.bench.Role.TheVariants.{Image, Side}
-use Rattle.udf_redo.specs.declared.stop.RedoStop.{RedoStop}
+use Rattle.std.proofs.Common.{◌++◌, sym, ◌∙◌, ap, subst, List, ℕ, Err}
+use Rattle.udf_outside.specs.Stops.{Held, pair_of, LeavesOnly, IsSettled}
 use Rattle.udf_redo.specs.Faults.{Answers}
 use Rattle.udf_redo.specs.Settled.{settled, CanGoOn}
 use Rattle.udf_top.specs.Texts.{replayed_text}
 use Rattle.udf_top.specs.Repairing.{replaying, mend_said}
-use Rattle.udf_top.specs.Headline.{Repairs}
 use Rattle.udf_top.specs.Steps.{IsSettling, Says}
 use Rattle.udf_top.specs.declared.outcome.Outcome.TheVariants as outcome
 use Rattle.udf_top.proofs.Mending.{large}

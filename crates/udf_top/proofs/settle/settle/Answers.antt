@@ -1,10 +1,8 @@
-use Rattle.std.proofs.Common.{◌≡◌, inl, inr, sym, ◌∙◌, ap, subst, List, ℕ, Result, Ok}
+use Rattle.std.proofs.Common.{◌≡◌, sym, ◌∙◌, ap, subst, ℕ, Result, Ok}
 use Rattle.udf_outside.specs.declared.bench.Role.TheVariants.{Image, Side}
-use Rattle.udf_outside.specs.Stops.{Held, bytes_of, LeavesOnly}
-use Rattle.udf_redo.specs.Log.{state_of}
-use Rattle.udf_redo.specs.Settled.{applied_to, clash_in, replay_answer}
+use Rattle.udf_outside.specs.Stops.{Held, bytes_of}
+use Rattle.udf_redo.specs.Settled.{clash_in, replay_answer}
 use Rattle.udf_redo.specs.Faults.{Answers}
-use Rattle.udf_redo.specs.Runs.{IsApplying}
 use Rattle.udf_redo.specs.declared.side.SideState.{SideState}
 use Rattle.udf_redo.specs.declared.stop.RedoStop.{RedoStop}
 use Rattle.udf_top.specs.Repairing.{replaying}

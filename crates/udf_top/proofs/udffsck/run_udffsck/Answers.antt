@@ -1,13 +1,9 @@
-use Rattle.std.proofs.Common.{◌≡◌, ◌++◌, ℕ, refl, sym, ◌∙◌, ap, subst, List, map, string_bytes, Option, Some, None, Result, Ok, Err, false, true}
-use Rattle.udf_outside.specs.Stops.{Held, bytes_of, pair_of}
-use Rattle.udf_top.specs.declared.outcome.Outcome.{Outcome}
-use Rattle.udf_top.specs.declared.outcome.Outcome.TheVariants as outcome
-use Rattle.udf_top.specs.declared.outcome.Cause.{Cause}
+use Rattle.std.proofs.Common.{◌++◌, ℕ, refl, sym, ◌∙◌, ap, subst, List, Some, Ok, Err}
+use Rattle.udf_outside.specs.Stops.{pair_of}
 use Rattle.udf_top.specs.declared.words.Work.{Work}
-use Rattle.udf_top.specs.Words.{Command, Repair, command_in}
 use Rattle.udf_top.specs.Asked.{side_seen}
 use Rattle.udf_top.specs.Texts.{text_of}
-use Rattle.udf_top.specs.Udffsck.{check_of, text_by, HasEnded, HoldsFront}
+use Rattle.udf_top.specs.Udffsck.{HasEnded, HoldsFront}
 use Rattle.udf_top.proofs.Commanded as commanded
 use Rattle.udf_top.proofs.udffsck.run_udffsck.Goals as goal
 
@@ -96,3 +92,6 @@ pub returns-in-Repair-clause-repairs : goal.returns-in-Repair-clause-repairs
 returns-in-Repair-clause-repairs g c tells repair e =
     let read = c.in-Ok.ensures.read ∙ ap (λ (w : Work). Ok (record { size = c.in-Ok.command.size; medium = c.in-Ok.command.medium.now; side = side_seen w c.in-Ok.command.medium.now })) c.in-Repair.is in
     c.repair_beside.ensures.repairs tells repair (sym (commanded.repair_is _ _ read) ∙ e)
+
+pub returns-in-Err-clause-repaired : goal.returns-in-Err-clause-repaired
+returns-in-Err-clause-repaired g c repair e = absurd (commanded.none_asked _ (Err c.in-Err.cause) c.in-Err.ensures.read refl repair e)
