@@ -9,3 +9,4 @@ pub mod Safe
 pub mod Commanded
 pub mod Ends
 pub mod Rerun
+pub mod Cleans

@@ -13,7 +13,7 @@ use Rattle.udf_volume_model.specs.Edits.{put_blocks}
 use Rattle.udf_volume_model.specs.Accepted.{is_accepted, is_unbroken, is_unbroken_by, mended, difference, plan_of}
 use Rattle.udf_volume_laws.proofs.Applied.{plan_gives}
 use Rattle.udf_volume_laws.proofs.Twice.{stays}
-use Rattle.udf_volume_laws.proofs.Difference.{no_broken_rule}
+use Rattle.udf_volume_laws.proofs.Difference.{no_broken_rule, broken_differs}
 use Rattle.udf_volume_laws.proofs.Findings as laws
 use Rattle.udf_volume.specs.declared.missing.Missing.{Missing}
 use Rattle.udf_volume.specs.declared.missing.Missing.TheVariants.{WriteProtected}
@@ -88,6 +88,10 @@ module _ (size : ℕ) (image : List ℕ) where
   pub nothing_written : is_unbroken size image ≡ true → written_in size image ≡ 0
   unfolding written_in
   nothing_written e = ap length (no_broken_rule size image e)
+
+  pub some_written : 512 ≤ size → is_accepted size image ≡ true → is_unbroken size image ≡ false → 1 ≤ written_in size image
+  unfolding written_in
+  some_written high accepted broken = broken_differs size image high accepted broken
 
   pub written_is : length (plan_of size image (mended size image)) ≡ written_in size image
   unfolding plan_of written_in

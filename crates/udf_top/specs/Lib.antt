@@ -5,6 +5,7 @@ pub mod Asked
 pub mod Texts
 pub mod Found
 pub mod Reported
+pub mod Attaching
 pub mod Repairing
 pub mod Headline
 pub mod Chains

@@ -1,7 +1,5 @@
 -- What the steps of a repair leave of its files.
-use Rattle.std.specs.Prelude.{◌≡◌, ◌⊎◌, ℕ, true, List, ◌++◌, length, Option, Some, IfSome, Result, Ok, Err}
-use Rattle.udf_outside.specs.declared.bench.Access.TheVariants.{Write, Create}
-use Rattle.udf_outside.specs.Files.{Files}
+use Rattle.std.specs.Prelude.{◌≡◌, ◌⊎◌, ℕ, true, List, ◌++◌, length, Option, Some, Result, Ok, Err}
 use Rattle.udf_outside.specs.declared.bench.Role.TheVariants.{Image, Side}
 use Rattle.udf_outside.specs.Stops.{Held, Pair, bytes_of, IsSettled, LeavesOnly}
 use Rattle.udf_volume_model.specs.Accepted.{mended, plan_of, is_unbroken}
@@ -11,29 +9,11 @@ use Rattle.udf_volume.specs.Writable.{opened_writable}
 use Rattle.udf_redo.specs.Log.{head_in, sealed_in}
 use Rattle.udf_redo.specs.Settled.{settled, CanGoOn, IsFree, SameElsewhere}
 use Rattle.udf_top.specs.declared.mend.Inspected.{Inspected}
-use Rattle.udf_top.specs.Words.{Repair}
 use Rattle.udf_top.specs.Found.{findings_in}
 use Rattle.udf_top.specs.declared.outcome.Outcome.{Outcome}
-use Rattle.udf_top.specs.declared.outcome.Outcome.TheVariants as outcome
 use Rattle.udf_top.specs.Repairing.{mend_of, logged, log_size}
 use Rattle.udf_top.specs.Headline.{HasRepaired, HasOpenedNoGate}
 use Rattle.udf_top.specs.Udffsck.{HasEnded, HoldsFront}
-
--- the side file was asked for by this name, to be made where it is missing, or nothing was asked of it
-abbrev pub WasAsked : List ℕ → Files → Files → Type 0
-WasAsked name old new = (new.side ≡ old.side) ⊎ ((new.side.asked ≡ Some Create) × IfSome new.side.name (λ told. told ≡ name))
-
--- A repair asked for the image by its name, for writing, and then for the side file; or, for want of memory, for nothing.
-abbrev pub AsksFor : Repair → Outcome → Files → Files → Type 0
-AsksFor repair result old new =
-    ((result ≡ outcome.Memory) × (new ≡ old))
-    ⊎ ((new.image.asked ≡ Some Write) × (IfSome new.image.name (λ told. told ≡ repair.medium) × WasAsked repair.side old new))
-
--- nothing was asked for, and only the size of the side file may differ
-pub record KeepsAsked (old new : Files) : Type 0 where
-  pub image : new.image ≡ old.image
-  pub asked : new.side.asked ≡ old.side.asked
-  pub name : new.side.name ≡ old.side.name
 
 -- while an open log is replayed: the files stand for the settled image, and what the log seals stays
 pub record IsSettling (start pair : Pair) : Type 0 where

@@ -19,7 +19,7 @@ mod udffsck;
 mod words;
 
 pub use finding::{Finding, Findings, Place};
-pub use laws::{chain_law, rerun_law};
+pub use laws::{chain_law, clean_law, rerun_law};
 pub use outcome::{Cause, Outcome, status};
 pub use report::report_line;
 pub use udffsck::run_udffsck;

@@ -18,7 +18,8 @@ ghost use Rattle.udf_top.specs.Found.{findings_in};
 ghost use Rattle.udf_top.specs.Texts.{text_of};
 ghost use Rattle.udf_top.specs.Repairing.{mend_said, repaired_as};
 ghost use Rattle.udf_top.specs.Headline.{HasOpenedNoGate};
-ghost use Rattle.udf_top.specs.Steps.{IsMending, IsMended, Inspects, KeepsAsked, Mends, Says};
+ghost use Rattle.udf_top.specs.Steps.{IsMending, IsMended, Inspects, Mends, Says};
+ghost use Rattle.udf_top.specs.Attaching.{KeepsAsked};
 ghost use Rattle.udf_top.specs.Udffsck.{HasEnded};
 
 use crate::rules::check_rules;

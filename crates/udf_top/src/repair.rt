@@ -8,7 +8,8 @@ ghost use Rattle.udf_top.specs.declared.outcome.Cause.{Cause};
 ghost use Rattle.udf_top.specs.Texts.{text_of};
 ghost use Rattle.udf_top.specs.Repairing.{refused_log, repair_of, repair_said};
 ghost use Rattle.udf_top.specs.Headline.{Repairs};
-ghost use Rattle.udf_top.specs.Steps.{Says, WasAsked};
+ghost use Rattle.udf_top.specs.Attaching.{WasAsked};
+ghost use Rattle.udf_top.specs.Steps.{Says};
 ghost use Rattle.udf_top.specs.Udffsck.{HasEnded};
 
 use crate::Outcome;

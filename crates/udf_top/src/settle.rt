@@ -9,7 +9,8 @@ ghost use Rattle.udf_redo.specs.Settled.{settled as settled_image, CanGoOn, IsFr
 ghost use Rattle.udf_redo.specs.Faults.{Answers, HasFault};
 ghost use Rattle.udf_redo.specs.declared.stop.RedoStop.TheVariants.{Memory};
 ghost use Rattle.udf_top.specs.Repairing.{replaying};
-ghost use Rattle.udf_top.specs.Steps.{IsSettling, WasAsked};
+ghost use Rattle.udf_top.specs.Attaching.{WasAsked};
+ghost use Rattle.udf_top.specs.Steps.{IsSettling};
 
 use std::alloc::Global;
 use udf_outside::{Access, Bench, Failed, Role};

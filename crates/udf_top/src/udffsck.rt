@@ -8,7 +8,8 @@ ghost use Rattle.udf_redo.specs.Log.{is_size};
 ghost use Rattle.udf_top.specs.Words.{Command, Repair, command_in, repair_in, beside, checks};
 ghost use Rattle.udf_top.specs.Asked.{side_seen};
 ghost use Rattle.udf_top.specs.Texts.{text_of};
-ghost use Rattle.udf_top.specs.Steps.{AsksFor, Says};
+ghost use Rattle.udf_top.specs.Attaching.{AsksFor};
+ghost use Rattle.udf_top.specs.Steps.{Says};
 ghost use Rattle.udf_top.specs.Headline.{Repairs};
 ghost use Rattle.udf_top.specs.Udffsck.{outcome_beside, outcome_of, said_beside, output_of, text_by, HasEnded, HoldsFront};
 

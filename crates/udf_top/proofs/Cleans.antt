@@ -1,0 +1,88 @@
+-- When a run is clean, by the rules.
+use Rattle.std.proofs.Common.{◌≡◌, ℕ, zero, suc, List, [], ◌∷◌, refl, sym, ◌∙◌, ap, true, false, Result, Ok, Err, is_ok}
+use Rattle.udf_outside.specs.Stops.{Pair}
+use Rattle.udf_volume_model.specs.Accepted.{is_accepted, is_unbroken}
+use Rattle.udf_volume.specs.declared.missing.Missing.{Missing}
+use Rattle.udf_volume.specs.declared.volume.Volume.{Volume}
+use Rattle.udf_volume.specs.Opened.{opened}
+use Rattle.udf_volume.specs.Writable.{opened_writable}
+use Rattle.udf_volume.proofs.Described.{opened_ok}
+use Rattle.udf_redo.specs.declared.stop.RedoStop.{RedoStop}
+use Rattle.udf_redo.specs.declared.stop.RedoStop.TheVariants as stop
+use Rattle.udf_redo.specs.Settled.{settled}
+use Rattle.udf_top.specs.declared.finding.Finding.{Finding}
+use Rattle.udf_top.specs.declared.outcome.Outcome.TheVariants as outcome
+use Rattle.udf_top.specs.Found.{findings_in}
+use Rattle.udf_top.specs.Repairing.{replaying, refused_log, repaired_as, mend_of, repair_from, repair_of, written_in}
+use Rattle.udf_top.specs.Udffsck.{by_findings, by_opened, check_of}
+use Rattle.udf_top.proofs.Mending.{accepted_ok, not_accepted, mend_ok, mend_refused, none_found, none_unbroken_image, unbroken_finds_none}
+
+-- no findings
+found_none : (findings : List Finding) → by_findings findings ≡ outcome.Clean → findings ≡ []
+found_none [] e = cc
+found_none (finding ∷ rest) e = absurd (cc)
+
+repaired_none : (replayed : ℕ) (findings : List Finding) (written : ℕ) → repaired_as replayed findings written ≡ outcome.Clean → (replayed ≡ 0) × (findings ≡ [])
+repaired_none zero [] written e = (cc, cc)
+repaired_none zero (finding ∷ rest) written e = absurd (cc)
+repaired_none (suc k) findings written e = absurd (cc)
+
+not_clean : (why : RedoStop) → refused_log why ≡ outcome.Clean → ⊥
+not_clean stop.NotALog e = absurd (cc)
+not_clean stop.BadLog e = absurd (cc)
+not_clean (stop.WrongImage clash) e = absurd (cc)
+not_clean stop.Fault e = absurd (cc)
+not_clean stop.Memory e = absurd (cc)
+
+module _ (size : ℕ) (image : List ℕ) where
+  check_as : (found : Result Volume Missing) → opened size image ≡ found → check_of size image ≡ by_opened found (findings_in size image)
+  unfolding check_of
+  check_as found e = ap (λ (r : Result Volume Missing). by_opened r (findings_in size image)) e
+
+  pub clean_check : check_of size image ≡ outcome.Clean → (is_ok (opened size image) ≡ true) × (is_unbroken size image ≡ true)
+  clean_check clean = by_answer (opened size image) refl where
+    by_answer : (found : Result Volume Missing) → opened size image ≡ found → (is_ok (opened size image) ≡ true) × (is_unbroken size image ≡ true)
+    by_answer (Ok volume) e =
+        let d = opened_ok size image volume e in
+        (ap is_ok e, none_found size image d.0 d.1.found (found_none (findings_in size image) (sym (check_as (Ok volume) e) ∙ clean)))
+    by_answer (Err missing) e = absurd (let no : outcome.Refused missing ≡ outcome.Clean = sym (check_as (Err missing) e) ∙ clean in cc)
+
+  pub check_clean : is_ok (opened size image) ≡ true → is_unbroken size image ≡ true → check_of size image ≡ outcome.Clean
+  check_clean ok unbroken = by_answer (opened size image) refl where
+    by_answer : (found : Result Volume Missing) → opened size image ≡ found → check_of size image ≡ outcome.Clean
+    by_answer (Ok volume) e = check_as (Ok volume) e ∙ ap by_findings (unbroken_finds_none size image unbroken)
+    by_answer (Err missing) e = absurd (let no : true ≡ false = sym ok ∙ ap is_ok e in cc)
+
+  mend_clean : (replayed : ℕ) → mend_of size replayed image ≡ outcome.Clean → (replayed ≡ 0) × ((is_accepted size image ≡ true) × (is_unbroken size image ≡ true))
+  mend_clean replayed clean = by_answer (opened_writable size image) refl where
+    by_answer : (found : Result Volume Missing) → opened_writable size image ≡ found → (replayed ≡ 0) × ((is_accepted size image ≡ true) × (is_unbroken size image ≡ true))
+    by_answer (Ok volume) e =
+        let none = repaired_none replayed (findings_in size image) (written_in size image) (sym (mend_ok size image replayed volume e) ∙ clean) in
+        (none.0, (accepted_ok size image volume e, none_unbroken_image size image volume e none.1))
+    by_answer (Err missing) e = absurd (let no : outcome.Refused missing ≡ outcome.Clean = sym (mend_refused size image replayed missing e) ∙ clean in cc)
+
+  clean_mend : is_accepted size image ≡ true → is_unbroken size image ≡ true → mend_of size 0 image ≡ outcome.Clean
+  clean_mend accepted unbroken = by_answer (opened_writable size image) refl where
+    by_answer : (found : Result Volume Missing) → opened_writable size image ≡ found → mend_of size 0 image ≡ outcome.Clean
+    by_answer (Ok volume) e =
+        mend_ok size image 0 volume e ∙ ap (λ (fs : List Finding). repaired_as 0 fs (written_in size image)) (unbroken_finds_none size image unbroken)
+    by_answer (Err missing) e = absurd (let no : true ≡ false = sym accepted ∙ not_accepted size image missing e in cc)
+
+module _ (size : ℕ) (pair : Pair) where
+  repair_as : (answer : Result ℕ RedoStop) → replaying pair ≡ answer → repair_of size pair ≡ repair_from size answer (settled pair)
+  unfolding repair_of
+  repair_as answer e = ap (λ (r : Result ℕ RedoStop). repair_from size r (settled pair)) e
+
+  pub clean_repair : repair_of size pair ≡ outcome.Clean
+      → (replaying pair ≡ Ok 0) × ((is_accepted size (settled pair) ≡ true) × (is_unbroken size (settled pair) ≡ true))
+  clean_repair clean = by_answer (replaying pair) refl where
+    by_answer : (answer : Result ℕ RedoStop) → replaying pair ≡ answer
+        → (replaying pair ≡ Ok 0) × ((is_accepted size (settled pair) ≡ true) × (is_unbroken size (settled pair) ≡ true))
+    by_answer (Ok k) e =
+        let is = mend_clean size (settled pair) k (sym (repair_as (Ok k) e) ∙ clean) in
+        (e ∙ ap (λ (n : ℕ). Ok n) is.0, is.1)
+    by_answer (Err why) e = absurd (not_clean why (sym (repair_as (Err why) e) ∙ clean))
+
+  pub repair_clean : replaying pair ≡ Ok 0 → is_accepted size (settled pair) ≡ true → is_unbroken size (settled pair) ≡ true
+      → repair_of size pair ≡ outcome.Clean
+  repair_clean answer accepted unbroken = repair_as (Ok 0) answer ∙ clean_mend size (settled pair) accepted unbroken
