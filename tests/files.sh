@@ -358,11 +358,20 @@ holds 'the image is the whole volume' cmp -s a.img "$whole"
 holds 'the log is closed' cmp -s other.log log
 
 fresh; expect 'side file is the medium' 16 'udffsck: a.img: side file is the medium' -p -B 512 --redo a.img a.img
-expect 'side file is the medium by another name' 12 'udffsck: ./a.img: not a log' -p -B 512 --redo ./a.img a.img
+expect 'side file is the medium by another name' 8 '' -p -B 512 --redo ./a.img a.img
+ln a.img hard; expect 'side file is a hard link to the medium' 8 '' -p -B 512 --redo hard a.img; rm hard
+ln -s a.img soft; expect 'side file is a symbolic link to the medium' 8 '' -p -B 512 --redo soft a.img; rm soft
 expect 'side file is a folder' 8 '' -p -B 512 --redo . a.img
 expect 'side file in a folder that is not there' 8 '' -p -B 512 --redo missing/a.redo a.img
-zero 256 1; expect 'side file that takes no byte' 8 'V2 -:256 1 2
-udffsck: a.img: repairing 1 blocks' -p -B 512 --redo /dev/full a.img
+zero 256 1; expect 'side file without a length' 8 '' -p -B 512 --redo /dev/full a.img
+mkfifo pipe; expect 'side file is a pipe' 8 '' -p -B 512 --redo pipe a.img; rm pipe
+expect 'side file of a name that is too long' 8 '' -p -B 512 --redo "$(printf '%300s' | tr ' ' x)" a.img
+
+# An image that begins like a log: its own log would be written over it.
+for link in 'ln' 'ln -s'; do
+    fresh; zero 256 1; cp log a.img.redo; dd if=log of=a.img conv=notrunc 2>/dev/null; rm a.img.redo
+    $link a.img link; expect "an image that begins like a log, by $link" 8 '' -p -B 512 --redo link a.img; rm link
+done
 
 # --- stops ---
 
@@ -406,13 +415,104 @@ stopped 'killed in the replay' '' 256
 holds 'the gate is open' [ "$(gate)" = 4f ]
 settled 'killed twice, run again' 7
 
-# The lines, the front and the body of the log, the gate twice, and seven blocks are at least twelve writes.
+# The front and the body of the log, the gate twice, and seven blocks are eleven writes; the lines go to another file.
 make_log 1007 96 97 98 99 100 101 1023
 if strace -o /dev/null true 2>/dev/null; then
-    sweep write; holds 'there are twelve writes' [ "$turn" -gt 12 ]
-    sweep fsync; holds 'there are five syncs' [ "$turn" -gt 5 ]
+    sweep write; holds 'there are three lines' [ "$turn" -gt 3 ]
+    sweep pwrite64; holds 'there are eleven writes' [ "$turn" -gt 11 ]
+    sweep fsync; holds 'there are six syncs' [ "$turn" -gt 6 ]
 else
     echo 'skipped without strace: a kill at each write and each sync'
+fi
+
+# --- the system's edges ---
+
+# A standard stream that is closed goes nowhere, and is no way into the image: streams CLOSED, as the shell closes them.
+for closed in '>&-' '<&-' '<&- >&-' '2>&-' '<&- >&- 2>&-'; do
+    for mode in -c -p; do
+        for volume in clean broken refused; do
+            fresh
+            case $volume in
+                clean) wanted=0 ;;
+                broken) zero 256 1; if [ $mode = -p ]; then wanted=1; else wanted=4; fi ;;
+                refused) zero 96 16; zero 1007 16; wanted=4 ;;
+            esac
+            cp a.img before.img
+            eval '"$program" '$mode' -B 512 a.img '"$closed" >printed 2>error
+            answer=$?
+            runs=$((runs + 1)) name="$mode of a $volume image under $closed"
+            holds "the status is $wanted" [ "$answer" = "$wanted" ]
+            if [ "$volume$mode" = broken-p ]; then
+                holds 'the image is the whole volume' cmp -s a.img "$whole"
+                make_log 96 256; holds 'the side file is the closed log' starts_with_log
+            else
+                holds 'the image is as it was' cmp -s a.img before.img
+                holds 'the side file holds nothing' [ ! -s a.img.redo ]
+            fi
+        done
+    done
+done
+
+# Two runs at one image: a lock of the system keeps a second one out, a check only while the image may be written.
+if command -v flock >/dev/null; then
+    fresh; zero 256 1
+    exec 7<a.img
+    flock -s 7; name='beside a reader'
+    expect 'repair beside a reader' 8 '' -p -B 512 a.img
+    check 'check beside a reader' 4 "V2 -:256 1 2
+$broken"
+    flock -u 7; flock -x 7
+    expect 'repair beside a writer' 8 '' -p -B 512 a.img
+    check 'check beside a writer' 8 ''
+    exec 7<&-
+    : >a.img.redo; exec 7<a.img.redo; flock -x 7; unwritten 'repair with a side file in use' 8 ''; exec 7<&-
+    mended 'repair after the locks' 'V2 -:256 1 2' 96 256
+else
+    echo 'skipped without flock: two runs at one image'
+fi
+
+# A side file that was made is on the medium with its name before it holds a byte.
+if strace -o /dev/null true 2>/dev/null; then
+    fresh; zero 256 1
+    strace -o calls -e trace=openat,open,fsync,pwrite64,write "$program" -p -B 512 a.img >/dev/null 2>error
+    name='the calls of a repair'
+    folder=$(grep -n 'open.*"\."' calls | head -n 1 | cut -d : -f 1)
+    synced=$(awk -v from="${folder:-0}" 'NR > from && /^fsync/ { print NR; exit }' calls)
+    written=$(grep -n '^pwrite64' calls | head -n 1 | cut -d : -f 1)
+    holds 'the folder is synced before the first write' [ "${synced:-999999}" -lt "${written:-0}" ]
+    holds 'no call seeks for a block' [ "$(grep -c pwrite64 calls)" -ge 5 ]
+else
+    echo 'skipped without strace: the sync of the folder of a new side file'
+fi
+fresh; zero 256 1; mkdir far; ln -s far/a.redo near.redo
+run 'a side file that a link makes' 1 'V2 -:256 1 2
+udffsck: a.img: repairing 1 blocks' -p -B 512 --redo near.redo a.img
+make_log 96 256; holds 'the log is where the link leads' cmp -s far/a.redo log; rm -r far near.redo
+
+# A write that fails after some of its bytes, and one that fails whole: the image is never touched without its log.
+make_log 1007 96 97 98 99 100 101
+fresh; zero 96 16; keep
+name='a log that does not fit'
+(trap '' XFSZ; ulimit -f 1 && exec "$program" -p -B 512 a.img) >/dev/null 2>error; answer=$?; runs=$((runs + 1))
+holds 'the status is 8' [ "$answer" = 8 ]
+holds 'the image is as it was' is_kept a.img
+holds 'the gate is closed' [ "$(gate)" = 00 ]
+mended 'a log that does not fit, run again' 'V3 -:96 0 5' 1007 96 97 98 99 100 101
+
+# A sync that fails ends the run; the same command, once the device works again, ends the repair.
+if strace -o /dev/null true 2>/dev/null; then
+    turn=1
+    while fresh && zero 96 16 && strace -f -o /dev/null -e "inject=fsync:error=EIO:when=$turn" "$program" -p -B 512 a.img >/dev/null 2>error; [ $? = 8 ]; do
+        runs=$((runs + 1))
+        name="after a failed sync $turn, run again"
+        "$program" -p -B 512 a.img >/dev/null 2>error; answer=$?
+        runs=$((runs + 1))
+        holds 'the status is 0 or 1' [ "$answer" -le 1 ]
+        holds 'the image is the whole volume' cmp -s a.img "$whole"
+        unwritten "$name, and again" 0 "$clean"
+        turn=$((turn + 1))
+    done
+    name='each sync in turn'; holds 'there are six syncs' [ "$turn" -ge 6 ]
 fi
 
 # --- block sizes ---
@@ -437,6 +537,10 @@ holds 'the image is the whole volume' cmp -s a.img "$whole"
 rm -f a.img a.img.redo; check 'a file that is not there' 8 ''
 expect 'repair of a file that is not there' 8 '' -p -B 512 a.img
 mkdir a.img; check 'a directory' 8 ''; expect 'repair of a directory' 8 '' -p -B 512 a.img; rmdir a.img
+mkfifo pipe; run 'a pipe without a writer' 8 '' -c -B 512 pipe; run 'repair of a pipe' 8 '' -p -B 512 pipe; rm -f pipe pipe.redo
+run 'a device that cannot tell its length' 8 '' -c -B 512 /dev/zero
+run 'a name that is too long' 8 '' -c -B 512 "$(printf '%300s' | tr ' ' x)"
+run 'repair of a name that is too long' 8 '' -p -B 512 "$(printf '%300s' | tr ' ' x)"
 if [ "$(id -u)" = 0 ]; then
     echo 'skipped as root: an image and a side file that may not be written'
 else

@@ -2,24 +2,26 @@
 ghost use Rattle.std.specs.Prelude.{◌≡◌, ◌+◌, ◌≤◌, length as length_of, OnOk, IfOk, is_ok};
 ghost use Rattle.udf_outside.specs.Causes.{HasCause};
 ghost use Rattle.udf_outside.specs.Files.{file_of, Attaches, Resizes};
-ghost use Rattle.udf_outside.specs.Numbered.{next_number};
 ghost use Rattle.udf_outside.specs.OverFiles.{nothing_attached};
 
 use crate::real_file::RealFile;
 use crate::{Access, Bench, Failed, Role};
+use std::fs;
+use std::fs::Files;
 use std::marker::Model;
-use std::rt::Files;
 
 /// A bench over real files. The length of a file is the one that was found at attaching, moved by the bench's own writes.
+/// Each file is locked while it is attached, so that no two runs change one image, and one file under two names is not
+/// attached twice.
 #[derive(Drop)]
-pub struct FileBench<R: Files + Drop> {
+pub struct FileBench<R: Files<File = fs::File> + Alloc + Drop> {
     runtime: R,
-    image: RealFile<R::File>,
-    side: RealFile<R::File>,
+    image: RealFile,
+    side: RealFile,
     faults: u64,
 }
 
-impl<R: Files + Drop> Model for FileBench<R> {
+impl<R: Files<File = fs::File> + Alloc + Drop> Model for FileBench<R> {
     ghost use Rattle.udf_outside.specs.OverFiles.{Attached};
 
     ghost Value = { Attached };
@@ -30,7 +32,7 @@ impl<R: Files + Drop> Model for FileBench<R> {
     } };
 }
 
-impl<R: Files + Drop> FileBench<R> {
+impl<R: Files<File = fs::File> + Alloc + Drop> FileBench<R> {
     /// A bench that was asked for no file.
     pub fn new(runtime: R) -> FileBench<R>
         ensures { result ≡ nothing_attached }
@@ -43,18 +45,21 @@ impl<R: Files + Drop> FileBench<R> {
         }
     }
 
-    /// Counts a failure.
-    fn fault(&mut self) -> Failed
+    /// Counts a call that failed.
+    fn counted(&mut self, answer: Result<(), Failed>) -> Result<(), Failed>
         ensures files { self.new.files ≡ self.old.files }
-        ensures counted { self.new.faults ≡ next_number self.old.faults }
-        ensures later { self.old.faults ≤ self.new.faults }
+        ensures answer { result ≡ answer }
+        ensures cause { HasCause self.old.faults self.new.faults result }
+        ensures calm { OnOk result (self.new.faults ≡ self.old.faults) }
     {
-        self.faults = self.faults.saturating_add(1);
-        Failed
+        if answer.is_err() {
+            self.faults = self.faults.saturating_add(1);
+        }
+        answer
     }
 }
 
-impl<R: Files + Drop> Bench for FileBench<R> {
+impl<R: Files<File = fs::File> + Alloc + Drop> Bench for FileBench<R> {
     ghost use Rattle.udf_outside.specs.Held.{nothing_held};
 
     ghost tells = { ⊥ };
@@ -69,16 +74,12 @@ impl<R: Files + Drop> Bench for FileBench<R> {
 
     fn attach(&mut self, role: Role, name: &str, access: Access) -> Result<(), Failed> {
         let file = RealFile::attached(&self.runtime, name, access);
-        let is_attached = file.is_attached();
+        let answer = file.answer();
         match role {
             Role::Image => self.image = file,
             Role::Side => self.side = file,
         }
-        if is_attached {
-            Ok(())
-        } else {
-            Err(self.fault())
-        }
+        self.counted(answer)
     }
 
     fn length(&mut self, role: Role) -> Result<u64, Failed> {
@@ -93,10 +94,7 @@ impl<R: Files + Drop> Bench for FileBench<R> {
             Role::Image => self.image.read(at, into),
             Role::Side => self.side.read(at, into),
         };
-        match answer {
-            Ok(()) => Ok(()),
-            Err(_) => Err(self.fault()),
-        }
+        self.counted(answer)
     }
 
     fn write_at(&mut self, role: Role, at: u64, from: &[u8]) -> Result<(), Failed> {
@@ -104,10 +102,7 @@ impl<R: Files + Drop> Bench for FileBench<R> {
             Role::Image => self.image.write(at, from),
             Role::Side => self.side.write(at, from),
         };
-        match answer {
-            Ok(()) => Ok(()),
-            Err(_) => Err(self.fault()),
-        }
+        self.counted(answer)
     }
 
     fn sync(&mut self, role: Role) -> Result<(), Failed> {
@@ -115,9 +110,6 @@ impl<R: Files + Drop> Bench for FileBench<R> {
             Role::Image => self.image.sync(),
             Role::Side => self.side.sync(),
         };
-        match answer {
-            Ok(()) => Ok(()),
-            Err(_) => Err(self.fault()),
-        }
+        self.counted(answer)
     }
 }

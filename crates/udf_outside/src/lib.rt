@@ -23,6 +23,7 @@ mod script;
 mod sink;
 mod sparse;
 mod standard_sink;
+mod standard_streams;
 
 pub use bench::{Access, Bench, Failed, Role, read_block};
 pub use file_bench::FileBench;
@@ -32,6 +33,7 @@ pub use memory_sink::MemSink;
 pub use script::Stop;
 pub use sink::Sink;
 pub use standard_sink::StdSink;
+pub use standard_streams::hold_standard_streams;
 pub use std::alloc::AllocError as NoMemory;
 
 #[cfg(test)]

@@ -4,8 +4,8 @@
 
 use std::process::ExitCode;
 use std::{env, io};
-use udf_outside::{FileBench, StdSink};
-use udf_top::{run_udffsck, status};
+use udf_outside::{FileBench, StdSink, hold_standard_streams};
+use udf_top::{Outcome, run_udffsck, status};
 
 // The words after the program's name. Words that cannot be had as a whole count as wrong ones.
 fn words(rt: &HostRuntime) -> Vec<String> {
@@ -22,6 +22,9 @@ fn words(rt: &HostRuntime) -> Vec<String> {
 }
 
 fn main(rt: HostRuntime) -> io::Result<ExitCode> {
+    if hold_standard_streams(&rt).is_err() {
+        return Ok(ExitCode::from(status(&Outcome::DeviceFault)));
+    }
     let words = words(&rt);
     let mut bench = FileBench::new(rt.clone()?);
     let mut out = StdSink::new(io::writer(&rt));
