@@ -418,7 +418,7 @@ settled 'killed twice, run again' 7
 # The front and the body of the log, the gate twice, and seven blocks are eleven writes; the lines go to another file.
 make_log 1007 96 97 98 99 100 101 1023
 if strace -o /dev/null true 2>/dev/null; then
-    sweep write; holds 'there are three lines' [ "$turn" -gt 3 ]
+    sweep write; holds 'the lines are put' [ "$turn" -gt 1 ]
     sweep pwrite64; holds 'there are eleven writes' [ "$turn" -gt 11 ]
     sweep fsync; holds 'there are six syncs' [ "$turn" -gt 6 ]
 else
@@ -547,12 +547,23 @@ else
     fresh; zero 256 1; chmod 444 a.img; expect 'repair of an image that may not be written' 8 '' -p -B 512 a.img
     chmod 644 a.img; : >a.img.redo; chmod 444 a.img.redo; unwritten 'side file that may not be written' 8 ''; chmod 644 a.img.redo
 fi
-fresh; zero 256 1; keep
-"$program" -p -B 512 a.img >/dev/full 2>error; answer=$?
-runs=$((runs + 1)) name='output that takes no byte'
-holds 'the status is 8' [ "$answer" = 8 ]
-holds 'the image is as it was' is_kept a.img
-holds 'the side file is empty' is_empty a.img.redo
+# Output on a device that is full: nothing is written to either file.
+for mode in -c -p; do
+    for volume in clean broken refused; do
+        fresh
+        case $volume in
+            clean) ;;
+            broken) zero 256 1 ;;
+            refused) zero 96 16; zero 1007 16 ;;
+        esac
+        keep
+        "$program" $mode -B 512 a.img >/dev/full 2>error; answer=$?
+        runs=$((runs + 1)) name="$mode of a $volume image with output that takes no byte"
+        holds 'the status is 8' [ "$answer" = 8 ]
+        holds 'the image is as it was' is_kept a.img
+        holds 'the side file holds nothing' [ ! -s a.img.redo ]
+    done
+done
 
 fresh
 expect 'no words' 16 "$usage"
