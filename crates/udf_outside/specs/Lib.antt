@@ -15,3 +15,4 @@ pub mod Sizes
 pub mod Run
 pub mod Refill
 pub mod Blocks
+pub mod Reads

@@ -5,6 +5,7 @@ ghost use Rattle.udf_outside.specs.declared.bench.Role.TheVariants.{Image};
 ghost use Rattle.udf_outside.specs.Files.{Files, file_of, IsAttached, IsWritable, Attaches, Resizes};
 ghost use Rattle.udf_outside.specs.Stops.{Held, bytes_of, slice_of, Writes, Syncs};
 ghost use Rattle.udf_outside.specs.Causes.{HasCause};
+ghost use Rattle.udf_outside.specs.Reads.{OnlyReads, failed};
 ghost use Rattle.udf_model.specs.Image.{block_of};
 
 /// The two files of a bench: the image of a volume, and the side file that holds the log of a repair.
@@ -37,7 +38,7 @@ pub trait Bench {
     /// What the files hold and held, and what a stop might leave of them. It binds where the bytes are told.
     ghost held: { Self → Held };
 
-    /// How often a call failed. It never falls.
+    /// How often a call failed. It never falls, and rises in a call that failed alone.
     ghost faults: { Self → ℕ };
 
     /// Asks for a file by its name. A role is asked for once, even in vain.
@@ -45,7 +46,8 @@ pub trait Bench {
         requires { (file_of role (files self.old)).asked ≡ None }
         ensures asked { Attaches role name.now access (is_ok result) (files self.old) (files self.new) }
         ensures held { held self.new ≡ held self.old }
-        ensures cause { HasCause (faults self.old) (faults self.new) result };
+        ensures cause { HasCause (faults self.old) (faults self.new) result }
+        ensures calm { OnOk result (faults self.new ≡ faults self.old) };
 
     /// The size of an attached file.
     fn length(&mut self, role: Role) -> Result<u64, Failed>
@@ -53,7 +55,8 @@ pub trait Bench {
         ensures size { IfOk result (λ n. n ≡ (file_of role (files self.old)).size) }
         ensures files { files self.new ≡ files self.old }
         ensures held { held self.new ≡ held self.old }
-        ensures cause { HasCause (faults self.old) (faults self.new) result };
+        ensures cause { HasCause (faults self.old) (faults self.new) result }
+        ensures calm { OnOk result (faults self.new ≡ faults self.old) };
 
     /// Fills the whole slice with the bytes from an offset on.
     fn read_at(&mut self, role: Role, at: u64, into: &mut [u8]) -> Result<(), Failed>
@@ -62,7 +65,8 @@ pub trait Bench {
         ensures bytes { tells → OnOk result (into.new ≡ slice_of (bytes_of role (held self.old)) at (length_of into.old)) }
         ensures files { files self.new ≡ files self.old }
         ensures held { held self.new ≡ held self.old }
-        ensures cause { HasCause (faults self.old) (faults self.new) result };
+        ensures cause { HasCause (faults self.old) (faults self.new) result }
+        ensures calm { OnOk result (faults self.new ≡ faults self.old) };
 
     /// Writes the bytes from an offset on, which is at most the size. The file grows where they end past it.
     fn write_at(&mut self, role: Role, at: u64, from: &[u8]) -> Result<(), Failed>
@@ -70,14 +74,16 @@ pub trait Bench {
         requires within { at ≤ (file_of role (files self.old)).size }
         ensures files { Resizes role (at + length_of from.now) (files self.old) (files self.new) result }
         ensures held { tells → Writes role at from.now (held self.old) (held self.new) result }
-        ensures cause { HasCause (faults self.old) (faults self.new) result };
+        ensures cause { HasCause (faults self.old) (faults self.new) result }
+        ensures calm { OnOk result (faults self.new ≡ faults self.old) };
 
     /// Brings what was written to the medium, the length too.
     fn sync(&mut self, role: Role) -> Result<(), Failed>
         requires { IsWritable role (files self.old) }
         ensures files { files self.new ≡ files self.old }
         ensures held { tells → Syncs role (held self.old) (held self.new) result }
-        ensures cause { HasCause (faults self.old) (faults self.new) result };
+        ensures cause { HasCause (faults self.old) (faults self.new) result }
+        ensures calm { OnOk result (faults self.new ≡ faults self.old) };
 
     /// Where the bytes of an attached file are told, its size is their number.
     ghost sizes: { (bench : Self) (role : Role) → tells → IsAttached role (files bench)
@@ -96,9 +102,7 @@ pub fn read_block<B: Bench>(
     requires within { (sector + 1) * size ≤ (B.files bench.old).image.size }
     requires room { length_of into.old ≡ size }
     ensures block { B.tells → OnOk result (into.new ≡ block_of size (bytes_of Image (B.held bench.old)) sector) }
-    ensures files { B.files bench.new ≡ B.files bench.old }
-    ensures held { B.held bench.new ≡ B.held bench.old }
-    ensures cause { HasCause (B.faults bench.old) (B.faults bench.new) result }
+    ensures reads { OnlyReads B.files B.held B.faults bench.old bench.new failed result }
 {
     bench.read_at(Role::Image, sector as u64 * size as u64, into)
 }

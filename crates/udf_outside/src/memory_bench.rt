@@ -2,13 +2,13 @@
 //! makes it fail.
 #![tactic(auto, unfolding(crate::specs::Memory::files_in, crate::specs::Memory::held_in, crate::specs::Memory::script_in, crate::specs::Undo::held_of, crate::specs::Undo::content_in))]
 
-ghost use Rattle.std.specs.Prelude.{◌≡◌, ◌⊎◌, ℕ, ◌+◌, ◌≤◌, length as length_of, OnOk, OnErr, IfOk, is_ok, None};
+ghost use Rattle.std.specs.Prelude.{◌≡◌, ◌⊎◌, ℕ, ◌+◌, ◌≤◌, length as length_of, OnOk, OnErr, IfOk, is_ok, None, Some};
 ghost use Rattle.udf_outside.specs.declared.script.Turn.{Turn};
 ghost use Rattle.udf_outside.specs.Causes.{HasCause};
 ghost use Rattle.udf_outside.specs.Files.{file_of, IsAttached, IsWritable, Attaches, Resizes};
 ghost use Rattle.udf_outside.specs.Stops.{bytes_of, slice_of, Writes, Syncs};
 ghost use Rattle.udf_outside.specs.Memory.{files_in, held_in, script_in, CarriesOut};
-ghost use Rattle.udf_outside.specs.Script.{Takes, Follows, after_call, with_write};
+ghost use Rattle.udf_outside.specs.Script.{Takes, Follows, after_call, after_want, with_write};
 
 use crate::memory::{MemBench, MemSlot};
 use crate::script::Turn;
@@ -40,8 +40,10 @@ impl Bench for MemBench {
 
     fn attach(&mut self, role: Role, name: &str, access: Access) -> Result<(), Failed>
         ensures asked { Attaches role name.now access (is_ok result) (files_in self.old) (files_in self.new) }
+        ensures named { ((file_of role (files_in self.new)).name ≡ Some name.now) ⊎ (script_in self.new ≡ after_want (after_call (script_in self.old))) }
         ensures held { held_in self.new ≡ held_in self.old }
         ensures cause { HasCause (script_in self.old).faults (script_in self.new).faults result }
+        ensures calm { OnOk result ((script_in self.new).faults ≡ (script_in self.old).faults) }
         ensures script { Follows (script_in self.old) (after_call (script_in self.old)) (script_in self.new) result }
     {
         let turn = self.script.turn();
@@ -64,6 +66,7 @@ impl Bench for MemBench {
         ensures files { files_in self.new ≡ files_in self.old }
         ensures held { held_in self.new ≡ held_in self.old }
         ensures cause { HasCause (script_in self.old).faults (script_in self.new).faults result }
+        ensures calm { OnOk result ((script_in self.new).faults ≡ (script_in self.old).faults) }
         ensures script { Follows (script_in self.old) (after_call (script_in self.old)) (script_in self.new) result }
     {
         let turn = self.script.turn();
@@ -78,6 +81,7 @@ impl Bench for MemBench {
         ensures files { files_in self.new ≡ files_in self.old }
         ensures held { held_in self.new ≡ held_in self.old }
         ensures cause { HasCause (script_in self.old).faults (script_in self.new).faults result }
+        ensures calm { OnOk result ((script_in self.new).faults ≡ (script_in self.old).faults) }
         ensures script { Follows (script_in self.old) (after_call (script_in self.old)) (script_in self.new) result }
     {
         let turn = self.script.turn();
@@ -91,6 +95,7 @@ impl Bench for MemBench {
         ensures files { Resizes role (at + length_of from.now) (files_in self.old) (files_in self.new) result }
         ensures held { Writes role at from.now (held_in self.old) (held_in self.new) result }
         ensures cause { HasCause (script_in self.old).faults (script_in self.new).faults result }
+        ensures calm { OnOk result ((script_in self.new).faults ≡ (script_in self.old).faults) }
         ensures left { (turn : Turn) × Takes (script_in self.old) turn × CarriesOut turn role at from.now self.old self.new }
         ensures script { let counted = with_write role (after_call (script_in self.old)) in
             Follows (script_in self.old) (record counted { spared = (script_in self.new).spared }) (script_in self.new) result }
@@ -105,6 +110,7 @@ impl Bench for MemBench {
         ensures files { files_in self.new ≡ files_in self.old }
         ensures held { Syncs role (held_in self.old) (held_in self.new) result }
         ensures cause { HasCause (script_in self.old).faults (script_in self.new).faults result }
+        ensures calm { OnOk result ((script_in self.new).faults ≡ (script_in self.old).faults) }
         ensures script { Follows (script_in self.old) (after_call (script_in self.old)) (script_in self.new) result }
     {
         let turn = self.script.turn();
