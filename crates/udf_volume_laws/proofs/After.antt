@@ -7,9 +7,9 @@ use Rattle.udf_volume_model.specs.Sequence.{view_of}
 use Rattle.udf_volume_model.specs.Anchor.{blocks_of, places}
 use Rattle.udf_volume_model.specs.Kept.{Volume, Main, kept, other, extent_of, opposite, limit_of, sequence_at, led_from, volume_in}
 use Rattle.udf_volume_model.specs.Areas.{Area, areas_of, partition_area, covers, is_outside}
-use Rattle.udf_volume_model.specs.Profile.{is_profile, is_protected}
+use Rattle.udf_volume_model.specs.Profile.{is_profile}
 use Rattle.udf_volume_model.specs.Layout.{are_lawful, are_places_lawful, is_lawful, is_passed, earlier}
-use Rattle.udf_volume_model.specs.Accepted.{is_accepted_by, is_sealed}
+use Rattle.udf_volume_model.specs.Opened.{is_opened_by, is_sealed}
 use Rattle.udf_volume_model.specs.Edits.{look}
 use Rattle.udf_volume_model.specs.Rules.{ascending_places, is_eligible, is_good, eligible, bad_of, anchors_hold, sequences_hold, agrees}
 use Rattle.udf_volume_model.specs.Mended.{logical_block, copies, sequence_edits, anchor_edits, edits}
@@ -27,13 +27,13 @@ use Rattle.udf_volume_laws.proofs.Pair.{IsPair, pair, kept_sequence}
 abbrev pub areas_in : ℕ → Volume → List Area
 areas_in size volume = areas_of size volume.anchor volume.list
 
--- a disk with an accepted volume
-pub record IsAccepted (size blocks : ℕ) (disk : ℕ → List ℕ) (volume : Volume) : Type 0 where
+-- a disk whose volume is opened
+pub record IsOpened (size blocks : ℕ) (disk : ℕ → List ℕ) (volume : Volume) : Type 0 where
   pub large : 512 ≤ size
   pub small : blocks < 2 ^ 32
   pub full : (n : ℕ) → n < blocks → length (disk n) ≡ size
   pub is : volume_in size blocks disk (places blocks) ≡ Some volume
-  pub accepted : is_accepted_by size blocks disk (Some volume) ≡ true
+  pub opened : is_opened_by size blocks disk (Some volume) ≡ true
 
 -- what follows at once
 pub record Facts (size blocks : ℕ) (disk : ℕ → List ℕ) (volume : Volume) : Type 0 where
@@ -42,20 +42,18 @@ pub record Facts (size blocks : ℕ) (disk : ℕ → List ℕ) (volume : Volume)
   pub anchor : IsAnchor size blocks volume.place (disk volume.place) volume.anchor
   pub pairing : IsPair size blocks volume.anchor volume.list (kept volume) (other volume)
   pub profile : is_profile size volume.list ≡ true
-  pub writable : not (is_protected volume.list) ≡ true
   pub lawful : are_lawful size blocks volume.list (areas_in size volume) ≡ true
   pub outside : is_outside (areas_in size volume) volume.place ≡ true
   pub passed : list_all (is_passed size blocks disk (areas_in size volume)) (earlier volume.place (places blocks)) ≡ true
 
-pub facts : (size blocks : ℕ) (disk : ℕ → List ℕ) (volume : Volume) → IsAccepted size blocks disk volume → Facts size blocks disk volume
+pub facts : (size blocks : ℕ) (disk : ℕ → List ℕ) (volume : Volume) → IsOpened size blocks disk volume → Facts size blocks disk volume
 unfolding is_lawful are_places_lawful
 facts size blocks disk volume a =
     let place = found size blocks disk (places blocks) volume a.is in
     let led : IsLed size blocks disk volume.place volume = subst (λ (n : ℕ). IsLed size blocks disk n volume) (sym place.2.here) place.2 in
     let anchor = is_anchor size blocks volume.place (disk volume.place) volume.anchor led.anchor in
-    let one = and_parts (is_profile size volume.list) (is_lawful size blocks disk volume && not (is_protected volume.list)) a.accepted in
-    let half = and_parts (is_lawful size blocks disk volume) (not (is_protected volume.list)) one.1 in
-    let two = and_parts (are_lawful size blocks volume.list (areas_in size volume)) (are_places_lawful size blocks disk volume.place (areas_in size volume)) half.0 in
+    let one = and_parts (is_profile size volume.list) (is_lawful size blocks disk volume) a.opened in
+    let two = and_parts (are_lawful size blocks volume.list (areas_in size volume)) (are_places_lawful size blocks disk volume.place (areas_in size volume)) one.1 in
     let three = and_parts (is_outside (areas_in size volume) volume.place) (list_all (is_passed size blocks disk (areas_in size volume)) (earlier volume.place (places blocks))) two.1 in
     record {
       member = subst (λ (n : ℕ). IsIn n (places blocks)) (sym place.2.here) place.1;
@@ -63,7 +61,6 @@ facts size blocks disk volume a =
       anchor = anchor;
       pairing = pair size blocks disk volume.place volume led anchor.within two.0;
       profile = one.0;
-      writable = half.1;
       lawful = two.0;
       outside = three.0;
       passed = three.1;
@@ -126,7 +123,7 @@ unfolding edits
 untouched size blocks disk volume n h k =
     off n (sequence_edits size disk volume ++ anchor_edits size blocks disk volume) (disk n) (off_both n _ _ h k)
 
-module _ (size blocks : ℕ) (disk : ℕ → List ℕ) (volume : Volume) (given : IsAccepted size blocks disk volume) where
+module _ (size blocks : ℕ) (disk : ℕ → List ℕ) (volume : Volume) (given : IsOpened size blocks disk volume) where
   abbrev pub after : ℕ → List ℕ
   after n = look n (edits size blocks disk volume) (disk n)
 

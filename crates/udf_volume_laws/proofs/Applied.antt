@@ -6,7 +6,8 @@ use Rattle.std.specs.Str.{bytes_eq}
 use Rattle.std.proofs.lemmas.Bool.{cases_Bool, cases_lt, not-false}
 use Rattle.udf_model.specs.Image.{block_of, blocks_in}
 use Rattle.udf_volume_model.specs.Edits.{look, put_blocks}
-use Rattle.udf_volume_model.specs.Accepted.{mended, difference, plan_of}
+use Rattle.udf_volume_model.specs.Plans.{IsRewrite}
+use Rattle.udf_volume_model.specs.Opened.{volume_mended, difference, plan_of}
 use Rattle.udf_volume_laws.proofs.Puts.{AreWithin, off, chosen, chosen_off, chosen_put, chosen_within, all_length, block_after}
 use Rattle.udf_volume_laws.proofs.Members.{IsIn, kept_in, in_kept}
 use Rattle.udf_volume_laws.proofs.Within.{block_ends}
@@ -60,6 +61,11 @@ module _ (size : ℕ) (image after : List ℕ) (some : 0 < size) (long : length 
       same_image size _ after some (all_length size (chosen (block_of size after) sectors) image fits ∙ sym long)
       (fun_ext (λ n. block_after size (chosen (block_of size after) sectors) image n fits ∙ by_order tail n (cases_lt n (blocks_in size image))))
 
-pub plan_gives : (size : ℕ) (image : List ℕ) → 512 ≤ size → put_blocks size (plan_of size image (mended size image)) image ≡ mended size image
-plan_gives size image large =
-    applied size image (mended size image) (omega arith) (length_kept size image large) (λ n past. sym (past_kept size image n large past))
+pub plan_gives : (size : ℕ) (image after : List ℕ) → 0 < size → IsRewrite size image after → put_blocks size (plan_of size image after) image ≡ after
+plan_gives size image after some is = applied size image after some is.same_length (λ n past. sym (is.same_past n past))
+
+pub mended_rewrites : (size : ℕ) (image : List ℕ) → 512 ≤ size → IsRewrite size image (volume_mended size image)
+mended_rewrites size image large = record {
+  same_length = length_kept size image large;
+  same_past = λ n past. past_kept size image n large past;
+}

@@ -12,10 +12,10 @@ use Rattle.udf_volume_model.specs.Kept.{Volume, volume_of}
 use Rattle.udf_volume_model.specs.Areas.{partition_area, covers}
 use Rattle.udf_volume_model.specs.Edits.{look}
 use Rattle.udf_volume_model.specs.Mended.{edits}
-use Rattle.udf_volume_model.specs.Accepted.{is_accepted, mended, is_unbroken, difference, is_sealed}
-use Rattle.udf_volume_laws.proofs.After.{IsAccepted, partition_stays, sealed_stays, past_stays}
-use Rattle.udf_volume_laws.proofs.Final.{accepted_parts, held_of, put_disk, mended_is, mended_image}
-use Rattle.udf_volume_laws.proofs.Twice.{unaccepted, stays}
+use Rattle.udf_volume_model.specs.Opened.{is_opened, volume_mended, is_volume_unbroken, difference, is_sealed}
+use Rattle.udf_volume_laws.proofs.After.{IsOpened, partition_stays, sealed_stays, past_stays}
+use Rattle.udf_volume_laws.proofs.Final.{opened_parts, held_of, put_disk, mended_is, mended_image}
+use Rattle.udf_volume_laws.proofs.Twice.{unopened, stays}
 use Rattle.udf_volume_laws.proofs.Same.{bytes_same}
 
 -- a byte is that of its block
@@ -55,62 +55,62 @@ no_difference_block size image after n none below =
     same_bytes _ _ (none_left (λ m. bytes_eq (block_of size image m) (block_of size after m)) (blocks_in size image) 0 n none (omega arith) (omega arith))
 
 -- a block of the mended image is the edit's, or the image's
-pub mended_block : (size : ℕ) (image : List ℕ) (volume : Volume) (n : ℕ) → 512 ≤ size → is_accepted size image ≡ true → volume_of size image ≡ Some volume
-    → block_of size (mended size image) n ≡ look n (edits size (blocks_in size image) (block_of size image) volume) (block_of size image n)
+pub mended_block : (size : ℕ) (image : List ℕ) (volume : Volume) (n : ℕ) → 512 ≤ size → is_opened size image ≡ true → volume_of size image ≡ Some volume
+    → block_of size (volume_mended size image) n ≡ look n (edits size (blocks_in size image) (block_of size image) volume) (block_of size image n)
 mended_block size image volume n large a is =
     let held = held_of size image volume large a is in
     ap (λ m. block_of size m n) (mended_is size image volume a is) ∙ ap (λ disk. disk n) (put_disk size image volume held)
 
-module _ (size : ℕ) (image : List ℕ) (volume : Volume) (large : 512 ≤ size) (a : is_accepted size image ≡ true) (is : volume_of size image ≡ Some volume) where
-  held : IsAccepted size (blocks_in size image) (block_of size image) volume
+module _ (size : ℕ) (image : List ℕ) (volume : Volume) (large : 512 ≤ size) (a : is_opened size image ≡ true) (is : volume_of size image ≡ Some volume) where
+  held : IsOpened size (blocks_in size image) (block_of size image) volume
   held = held_of size image volume large a is
 
-  pub partition_kept : (n : ℕ) → covers (partition_area volume.list) n ≡ true → block_of size (mended size image) n ≡ block_of size image n
+  pub partition_kept : (n : ℕ) → covers (partition_area volume.list) n ≡ true → block_of size (volume_mended size image) n ≡ block_of size image n
   partition_kept n c = mended_block size image volume n large a is ∙ partition_stays size (blocks_in size image) (block_of size image) volume held n c
 
-  pub sealed_kept : (n : ℕ) → is_sealed volume n ≡ true → block_of size (mended size image) n ≡ block_of size image n
+  pub sealed_kept : (n : ℕ) → is_sealed volume n ≡ true → block_of size (volume_mended size image) n ≡ block_of size image n
   sealed_kept n c = mended_block size image volume n large a is ∙ sealed_stays size (blocks_in size image) (block_of size image) volume held n c
 
-  pub past_kept_by : (n : ℕ) → blocks_in size image ≤ n → block_of size (mended size image) n ≡ block_of size image n
+  pub past_kept_by : (n : ℕ) → blocks_in size image ≤ n → block_of size (volume_mended size image) n ≡ block_of size image n
   past_kept_by n past = mended_block size image volume n large a is ∙ past_stays size (blocks_in size image) (block_of size image) volume held n past
 
-pub past_kept : (size : ℕ) (image : List ℕ) (n : ℕ) → 512 ≤ size → blocks_in size image ≤ n → block_of size (mended size image) n ≡ block_of size image n
-past_kept size image n large past = by_accepted (cases_Bool (is_accepted size image)) where
-  by_accepted : (is_accepted size image ≡ true) ⊎ (is_accepted size image ≡ false) → block_of size (mended size image) n ≡ block_of size image n
-  by_accepted (inl a) = let parts = accepted_parts size image a in past_kept_by size image parts.1.0 large a parts.1.1 n past
-  by_accepted (inr e) = ap (λ m. block_of size m n) (unaccepted size image e)
+pub past_kept : (size : ℕ) (image : List ℕ) (n : ℕ) → 512 ≤ size → blocks_in size image ≤ n → block_of size (volume_mended size image) n ≡ block_of size image n
+past_kept size image n large past = by_opening (cases_Bool (is_opened size image)) where
+  by_opening : (is_opened size image ≡ true) ⊎ (is_opened size image ≡ false) → block_of size (volume_mended size image) n ≡ block_of size image n
+  by_opening (inl a) = let parts = opened_parts size image a in past_kept_by size image parts.1.0 large a parts.1.1 n past
+  by_opening (inr e) = ap (λ m. block_of size m n) (unopened size image e)
 
-pub length_kept : (size : ℕ) (image : List ℕ) → 512 ≤ size → length (mended size image) ≡ length image
-length_kept size image large = by_accepted (cases_Bool (is_accepted size image)) where
-  by_accepted : (is_accepted size image ≡ true) ⊎ (is_accepted size image ≡ false) → length (mended size image) ≡ length image
-  by_accepted (inl a) = (mended_image size image large a).length_stays
-  by_accepted (inr e) = ap length (unaccepted size image e)
+pub length_kept : (size : ℕ) (image : List ℕ) → 512 ≤ size → length (volume_mended size image) ≡ length image
+length_kept size image large = by_opening (cases_Bool (is_opened size image)) where
+  by_opening : (is_opened size image ≡ true) ⊎ (is_opened size image ≡ false) → length (volume_mended size image) ≡ length image
+  by_opening (inl a) = (mended_image size image large a).length_stays
+  by_opening (inr e) = ap length (unopened size image e)
 
 -- no difference, no broken rule
-pub no_difference : (size : ℕ) (image : List ℕ) → 512 ≤ size → is_accepted size image ≡ true → difference size image (mended size image) ≡ [] → is_unbroken size image ≡ true
+pub no_difference : (size : ℕ) (image : List ℕ) → 512 ≤ size → is_opened size image ≡ true → difference size image (volume_mended size image) ≡ [] → is_volume_unbroken size image ≡ true
 no_difference size image large a none =
     let m = mended_image size image large a in
-    let same : mended size image ≡ image = same_image size (mended size image) image (omega arith) m.length_stays
+    let same : volume_mended size image ≡ image = same_image size (volume_mended size image) image (omega arith) m.length_stays
     (fun_ext (λ n. by_order n (cases_lt n (blocks_in size image)))) in
-    ap (is_unbroken size) (sym same) ∙ m.rules where
-      by_order : (n : ℕ) → (n < blocks_in size image) ⊎ (blocks_in size image ≤ n) → block_of size (mended size image) n ≡ block_of size image n
-      by_order n (inl below) = sym (no_difference_block size image (mended size image) n none below)
+    ap (is_volume_unbroken size) (sym same) ∙ m.rules where
+      by_order : (n : ℕ) → (n < blocks_in size image) ⊎ (blocks_in size image ≤ n) → block_of size (volume_mended size image) n ≡ block_of size image n
+      by_order n (inl below) = sym (no_difference_block size image (volume_mended size image) n none below)
       by_order n (inr past) = past_kept size image n large past
 
 none_differ : (test : ℕ → Bool) (xs : List ℕ) → ((n : ℕ) → test n ≡ true) → filter (λ m. not (test m)) xs ≡ []
 none_differ test [] h = refl
 none_differ test (x ∷ xs) h = ap (λ b. cond (not b) (x ∷ filter (λ m. not (test m)) xs) (filter (λ m. not (test m)) xs)) (h x) ∙ none_differ test xs h
 
-pub no_broken_rule : (size : ℕ) (image : List ℕ) → is_unbroken size image ≡ true → difference size image (mended size image) ≡ []
+pub no_broken_rule : (size : ℕ) (image : List ℕ) → is_volume_unbroken size image ≡ true → difference size image (volume_mended size image) ≡ []
 unfolding difference
 no_broken_rule size image e =
-    none_differ (λ n. bytes_eq (block_of size image n) (block_of size (mended size image) n)) (range_with_len 0 (blocks_in size image))
+    none_differ (λ n. bytes_eq (block_of size image n) (block_of size (volume_mended size image) n)) (range_with_len 0 (blocks_in size image))
     (λ n. ap (λ m. bytes_eq (block_of size image n) (block_of size m n)) (stays size image e) ∙ bytes_same (block_of size image n))
 
 some_left : (xs : List ℕ) → (xs ≡ [] → ⊥) → 1 ≤ length xs
 some_left [] h = absurd (h refl)
 some_left (x ∷ xs) h = omega arith
 
-pub broken_differs : (size : ℕ) (image : List ℕ) → 512 ≤ size → is_accepted size image ≡ true → is_unbroken size image ≡ false → 1 ≤ length (difference size image (mended size image))
+pub broken_differs : (size : ℕ) (image : List ℕ) → 512 ≤ size → is_opened size image ≡ true → is_volume_unbroken size image ≡ false → 1 ≤ length (difference size image (volume_mended size image))
 broken_differs size image large a broken =
     some_left _ (λ none. let f : true ≡ false = sym (no_difference size image large a none) ∙ broken in cc)

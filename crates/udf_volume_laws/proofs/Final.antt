@@ -10,14 +10,14 @@ use Rattle.udf_volume_model.specs.Areas.{areas_of}
 use Rattle.udf_volume_model.specs.Rules.{eligible, bad_of, anchors_hold, sequences_hold, rules_hold}
 use Rattle.udf_volume_model.specs.Edits.{look, put_blocks}
 use Rattle.udf_volume_model.specs.Mended.{logical_block, copies, sequence_edits, anchor_edits, edits}
-use Rattle.udf_volume_model.specs.Accepted.{is_accepted_by, is_accepted, mended_by, mended, is_unbroken_by, is_unbroken}
+use Rattle.udf_volume_model.specs.Opened.{is_opened_by, is_opened, mended_by, volume_mended, is_volume_unbroken_by, is_volume_unbroken}
 use Rattle.udf_volume_model.specs.Same.{IsSame}
 use Rattle.udf_model.proofs.Relocated.{relocated_length}
 use Rattle.udf_volume_laws.proofs.Ascending.{places_within, ascending_within}
 use Rattle.udf_volume_laws.proofs.Puts.{AreWithin, chosen, chosen_within, all_length, block_after}
 use Rattle.udf_volume_laws.proofs.Within.{block_ends, both_within, copies_within}
 use Rattle.udf_volume_laws.proofs.Led.{IsSequence}
-use Rattle.udf_volume_laws.proofs.After.{IsAccepted, Facts, facts, whole, bad_place}
+use Rattle.udf_volume_laws.proofs.After.{IsOpened, Facts, facts, whole, bad_place}
 use Rattle.udf_volume_laws.proofs.Law.{IsMended, StandsEarlier, mends, volume_after}
 
 pub block_length : (size : ℕ) (image : List ℕ) (n : ℕ) → n < blocks_in size image → length (block_of size image n) ≡ size
@@ -26,45 +26,45 @@ block_length size image n h =
     let ends : n * size + size ≤ length image = block_ends size (length image) n h in
     length-take-le size (drop (n * size) image) (omega (arith, length-drop (n * size) image))
 
-pub accepted_parts : (size : ℕ) (image : List ℕ) → is_accepted size image ≡ true
+pub opened_parts : (size : ℕ) (image : List ℕ) → is_opened size image ≡ true
     → (blocks_in size image < 2 ^ 32)
     × ((volume : Volume) × (volume_of size image ≡ Some volume)
-    × (is_accepted_by size (blocks_in size image) (block_of size image) (Some volume) ≡ true))
-unfolding is_accepted
-accepted_parts size image e = (ltb-true _ _ parts.0, by_volume (volume_of size image) refl parts.1) where
+    × (is_opened_by size (blocks_in size image) (block_of size image) (Some volume) ≡ true))
+unfolding is_opened
+opened_parts size image e = (ltb-true _ _ parts.0, by_volume (volume_of size image) refl parts.1) where
   parts : (ltb (blocks_in size image) 4294967296 ≡ true)
-      × (is_accepted_by size (blocks_in size image) (block_of size image) (volume_of size image) ≡ true)
-  parts = and_parts (ltb (blocks_in size image) 4294967296) (is_accepted_by size (blocks_in size image) (block_of size image) (volume_of size image)) e
+      × (is_opened_by size (blocks_in size image) (block_of size image) (volume_of size image) ≡ true)
+  parts = and_parts (ltb (blocks_in size image) 4294967296) (is_opened_by size (blocks_in size image) (block_of size image) (volume_of size image)) e
 
   by_volume : (found : Option Volume) → volume_of size image ≡ found
-      → is_accepted_by size (blocks_in size image) (block_of size image) found ≡ true
+      → is_opened_by size (blocks_in size image) (block_of size image) found ≡ true
       → (volume : Volume) × (volume_of size image ≡ Some volume)
-      × (is_accepted_by size (blocks_in size image) (block_of size image) (Some volume) ≡ true)
+      × (is_opened_by size (blocks_in size image) (block_of size image) (Some volume) ≡ true)
   by_volume None v a = absurd (cc)
   by_volume (Some volume) v a = (volume, v, a)
 
 pub given : (size : ℕ) (image : List ℕ) (volume : Volume) → 512 ≤ size → blocks_in size image < 2 ^ 32 → volume_of size image ≡ Some volume
-    → is_accepted_by size (blocks_in size image) (block_of size image) (Some volume) ≡ true
-    → IsAccepted size (blocks_in size image) (block_of size image) volume
+    → is_opened_by size (blocks_in size image) (block_of size image) (Some volume) ≡ true
+    → IsOpened size (blocks_in size image) (block_of size image) volume
 unfolding volume_of
-given size image volume large small is accepted = record {
+given size image volume large small is opened = record {
   large = large;
   small = small;
   full = block_length size image;
   is = is;
-  accepted = accepted;
+  opened = opened;
 }
 
-pub held_of : (size : ℕ) (image : List ℕ) (volume : Volume) → 512 ≤ size → is_accepted size image ≡ true → volume_of size image ≡ Some volume
-    → IsAccepted size (blocks_in size image) (block_of size image) volume
+pub held_of : (size : ℕ) (image : List ℕ) (volume : Volume) → 512 ≤ size → is_opened size image ≡ true → volume_of size image ≡ Some volume
+    → IsOpened size (blocks_in size image) (block_of size image) volume
 held_of size image volume large a is =
-    let parts = accepted_parts size image a in
+    let parts = opened_parts size image a in
     let same : parts.1.0 ≡ volume = let s : Some parts.1.0 ≡ Some volume = sym parts.1.1 ∙ is in cc in
-    subst (λ (v : Volume). IsAccepted size (blocks_in size image) (block_of size image) v) same (given size image parts.1.0 large parts.0 parts.1.1 parts.1.2)
+    subst (λ (v : Volume). IsOpened size (blocks_in size image) (block_of size image) v) same (given size image parts.1.0 large parts.0 parts.1.1 parts.1.2)
 
 -- the edits fit
 module _ (size : ℕ) (image : List ℕ) (volume : Volume)
-    (held : IsAccepted size (blocks_in size image) (block_of size image) volume) where
+    (held : IsOpened size (blocks_in size image) (block_of size image) volume) where
   known : Facts size (blocks_in size image) (block_of size image) volume
   known = facts size (blocks_in size image) (block_of size image) volume held
 
@@ -128,8 +128,8 @@ module _ (size : ℕ) (image : List ℕ) (volume : Volume)
 -- what the law says of images
 pub record IsMendedImage (size : ℕ) (image after : List ℕ) : Type 0 where
   pub length_stays : length after ≡ length image
-  pub accepted : is_accepted size after ≡ true
-  pub rules : is_unbroken size after ≡ true
+  pub opened : is_opened size after ≡ true
+  pub rules : is_volume_unbroken size after ≡ true
   pub before_is : Volume
   pub after_is : Volume
   pub before_volume : volume_of size image ≡ Some before_is
@@ -139,11 +139,11 @@ pub record IsMendedImage (size : ℕ) (image after : List ℕ) : Type 0 where
 finish : (size : ℕ) (image : List ℕ) (before : Volume) (after : List ℕ) (next : Volume) → volume_of size image ≡ Some before → length after ≡ length image → blocks_in size after < 2 ^ 32
     → blocks_in size after ≡ blocks_in size image
     → IsMended size (blocks_in size after) before next (block_of size after) → IsMendedImage size image after
-unfolding volume_of is_accepted is_unbroken rules_hold
+unfolding volume_of is_opened is_volume_unbroken rules_hold
 finish size image before after next is long few count m = record {
   length_stays = long;
-  accepted = and_from _ _ (lt-ltb _ _ few) (ap (is_accepted_by size (blocks_in size after) (block_of size after)) m.is ∙ m.accepted);
-  rules = ap (is_unbroken_by size after) m.is ∙ and_from _ _ m.anchors m.sequences;
+  opened = and_from _ _ (lt-ltb _ _ few) (ap (is_opened_by size (blocks_in size after) (block_of size after)) m.is ∙ m.opened);
+  rules = ap (is_volume_unbroken_by size after) m.is ∙ and_from _ _ m.anchors m.sequences;
   before_is = before;
   after_is = next;
   before_volume = is;
@@ -157,14 +157,14 @@ finish size image before after next is long few count m = record {
   };
 }
 
-pub mended_is : (size : ℕ) (image : List ℕ) (volume : Volume) → is_accepted size image ≡ true → volume_of size image ≡ Some volume
-    → mended size image ≡ mended_by size image (Some volume)
-unfolding mended
+pub mended_is : (size : ℕ) (image : List ℕ) (volume : Volume) → is_opened size image ≡ true → volume_of size image ≡ Some volume
+    → volume_mended size image ≡ mended_by size image (Some volume)
+unfolding volume_mended
 mended_is size image volume a is = ap (λ b. cond b (mended_by size image (volume_of size image)) image) a ∙ ap (mended_by size image) is
 
-pub mended_image : (size : ℕ) (image : List ℕ) → 512 ≤ size → is_accepted size image ≡ true → IsMendedImage size image (mended size image)
+pub mended_image : (size : ℕ) (image : List ℕ) → 512 ≤ size → is_opened size image ≡ true → IsMendedImage size image (volume_mended size image)
 mended_image size image large e =
-    let parts = accepted_parts size image e in
+    let parts = opened_parts size image e in
     let volume = parts.1.0 in
     let held = given size image volume large parts.0 parts.1.1 parts.1.2 in
     let l = law size image volume held in

@@ -12,7 +12,7 @@ use Rattle.udf_volume_laws.proofs.Members.{IsIn, kept_in, same_filter, same_all}
 use Rattle.udf_volume_laws.proofs.Ascending.{from_ascending}
 use Rattle.udf_volume_laws.proofs.Places.{anchor_from}
 use Rattle.udf_volume_laws.proofs.Led.{IsMain, IsReserve, leads_none, same_sequence}
-use Rattle.udf_volume_laws.proofs.After.{IsAccepted, Facts, facts, areas_in}
+use Rattle.udf_volume_laws.proofs.After.{IsOpened, Facts, facts, areas_in}
 
 -- the disks agree in what a volume is read from
 pub record AgreeOn (size blocks : ℕ) (disk other : ℕ → List ℕ) (volume : Volume) : Type 0 where
@@ -35,7 +35,7 @@ same_volume size disk volume (inr m) =
     ∙ ap (volume_by volume.place volume.anchor None) m.2
     ∙ ap (λ w. Some (record { place = volume.place; anchor = volume.anchor; which = w; list = volume.list })) (sym m.0)
 
-module _ (size blocks : ℕ) (disk other : ℕ → List ℕ) (volume : Volume) (given : IsAccepted size blocks disk volume)
+module _ (size blocks : ℕ) (disk other : ℕ → List ℕ) (volume : Volume) (given : IsOpened size blocks disk volume)
     (agree : AgreeOn size blocks disk other volume) where
   known : Facts size blocks disk volume
   known = facts size blocks disk volume given
@@ -87,8 +87,8 @@ module _ (size blocks : ℕ) (disk other : ℕ → List ℕ) (volume : Volume) (
           ap (λ b. list_all (is_passed size blocks other (areas_in size volume)) (cond b [] (x ∷ earlier volume.place xs))) (ne_eqb x volume.place apart) ∙ and_from _ _ here next.1,
         )
 
-  -- the other disk has the same volume, and is accepted with it
-  pub frame : ((n : ℕ) → n < blocks → length (other n) ≡ size) → IsAccepted size blocks other volume
+  -- the other disk has the same volume, opened with it
+  pub frame : ((n : ℕ) → n < blocks → length (other n) ≡ size) → IsOpened size blocks other volume
   unfolding is_lawful are_places_lawful
   frame full =
       let r = reached (places blocks) (λ n i. i) known.passed known.member in
@@ -97,7 +97,7 @@ module _ (size blocks : ℕ) (disk other : ℕ → List ℕ) (volume : Volume) (
         small = given.small;
         full = full;
         is = r.0;
-        accepted = and_from _ _ known.profile (and_from _ _ (and_from _ _ known.lawful (and_from _ _ known.outside r.1)) known.writable);
+        opened = and_from _ _ known.profile (and_from _ _ known.lawful (and_from _ _ known.outside r.1));
       }
 
   outside_of : (n : ℕ) → is_eligible (areas_in size volume) n ≡ true → is_outside (areas_in size volume) n ≡ true

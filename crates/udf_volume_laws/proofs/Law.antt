@@ -7,7 +7,7 @@ use Rattle.udf_volume_model.specs.Anchor.{Anchor, places, anchor_in}
 use Rattle.udf_volume_model.specs.Kept.{Volume, Main, led_from, volume_in, or_else}
 use Rattle.udf_volume_model.specs.Areas.{is_outside}
 use Rattle.udf_volume_model.specs.Layout.{are_places_lawful, is_lawful, is_passed, earlier}
-use Rattle.udf_volume_model.specs.Accepted.{is_accepted_by}
+use Rattle.udf_volume_model.specs.Opened.{is_opened_by}
 use Rattle.udf_volume_model.specs.Edits.{look}
 use Rattle.udf_volume_model.specs.Mended.{edits}
 use Rattle.udf_volume_model.specs.Rules.{ascending_places, is_eligible, is_good, eligible, anchors_hold, sequences_hold}
@@ -15,7 +15,7 @@ use Rattle.udf_volume_laws.proofs.Members.{IsIn, all_from, kept_in, same_filter,
 use Rattle.udf_volume_laws.proofs.Ascending.{IsHigh, places_high, to_ascending}
 use Rattle.udf_volume_laws.proofs.Places.{IsAnchor, good_from}
 use Rattle.udf_volume_laws.proofs.Led.{leads_none}
-use Rattle.udf_volume_laws.proofs.After.{IsAccepted, Facts, facts, areas_in, reserve_agrees, outside_stays, anchor_there, place_leads as place_leads_of, leads_after as leads_after_of, outside_of as outside_by}
+use Rattle.udf_volume_laws.proofs.After.{IsOpened, Facts, facts, areas_in, reserve_agrees, outside_stays, anchor_there, place_leads as place_leads_of, leads_after as leads_after_of, outside_of as outside_by}
 
 -- where it stood, or at an earlier place
 abbrev pub StandsEarlier : ℕ → ℕ → ℕ → Type 0
@@ -28,7 +28,7 @@ pub record IsMended (size blocks : ℕ) (before after : Volume) (disk : ℕ → 
   pub same_list : after.list ≡ before.list
   pub place : StandsEarlier blocks before.place after.place
   pub which : after.which ≡ Main
-  pub accepted : is_accepted_by size blocks disk (Some after) ≡ true
+  pub opened : is_opened_by size blocks disk (Some after) ≡ true
   pub anchors : anchors_hold size blocks disk after ≡ true
   pub sequences : sequences_hold size disk after ≡ true
 
@@ -36,7 +36,7 @@ no_anchor : (o : Option Anchor) → is_none o ≡ true → o ≡ None
 no_anchor None e = refl
 no_anchor (Some a) e = absurd (cc)
 
-module _ (size blocks : ℕ) (disk : ℕ → List ℕ) (volume : Volume) (given : IsAccepted size blocks disk volume) where
+module _ (size blocks : ℕ) (disk : ℕ → List ℕ) (volume : Volume) (given : IsOpened size blocks disk volume) where
   abbrev after : ℕ → List ℕ
   after n = look n (edits size blocks disk volume) (disk n)
 
@@ -91,11 +91,11 @@ module _ (size blocks : ℕ) (disk : ℕ → List ℕ) (volume : Volume) (given 
         let parts = and_parts (is_passed size blocks after (areas_in size volume) x) (list_all (is_passed size blocks after (areas_in size volume)) (earlier volume.place xs)) past in
         ap (λ o. or_else o (volume_in size blocks after xs)) (none_there x parts.0) ∙ rest parts.1 later
 
-  -- the volume afterwards is accepted
-  accepts : (n : ℕ) → is_outside (areas_in size volume) n ≡ true → list_all (is_passed size blocks after (areas_in size volume)) (earlier n (places blocks)) ≡ true
-      → is_accepted_by size blocks after (Some (volume_after n)) ≡ true
+  -- the volume is opened afterwards
+  opens : (n : ℕ) → is_outside (areas_in size volume) n ≡ true → list_all (is_passed size blocks after (areas_in size volume)) (earlier n (places blocks)) ≡ true
+      → is_opened_by size blocks after (Some (volume_after n)) ≡ true
   unfolding is_lawful are_places_lawful
-  accepts n e p = and_from _ _ known.profile (and_from _ _ (and_from _ _ known.lawful (and_from _ _ e p)) known.writable)
+  opens n e p = and_from _ _ known.profile (and_from _ _ known.lawful (and_from _ _ e p))
 
   parts_of : (m : ℕ) → IsIn m (eligible size blocks volume) → IsIn m (ascending_places blocks) × (is_eligible (areas_in size volume) m ≡ true)
   unfolding eligible
@@ -131,7 +131,7 @@ module _ (size blocks : ℕ) (disk : ℕ → List ℕ) (volume : Volume) (given 
       same_list = refl;
       place = inl refl;
       which = refl;
-      accepted = accepts volume.place known.outside (all_pass holds _ known.passed);
+      opened = opens volume.place known.outside (all_pass holds _ known.passed);
       anchors = second_stays holds volume.place;
       sequences = third volume.place;
     },
@@ -167,7 +167,7 @@ module _ (size blocks : ℕ) (disk : ℕ → List ℕ) (volume : Volume) (given 
       same_list = refl;
       place = stands;
       which = refl;
-      accepted = accepts x out none_before;
+      opened = opens x out none_before;
       anchors = second_comes broken x;
       sequences = third x;
     }
@@ -188,7 +188,7 @@ module _ (size blocks : ℕ) (disk : ℕ → List ℕ) (volume : Volume) (given 
         made (inr (first_earlier apart)) (outside_by size blocks disk volume given x e1)
         (leads_after x (anchor_there size blocks disk volume given broken x (to_ascending blocks x (subst (λ (ys : List ℕ). IsIn x ys) (sym is) (inl refl))) e1))
 
-  -- THE LAW: afterwards the volume is the same but for where the kept anchor and sequence stand, it is accepted, and both rules hold
+  -- THE LAW: afterwards the volume is the same but for where the kept anchor and sequence stand, it is opened, and the rules hold
   pub mends : (place : ℕ) × IsMended size blocks volume (volume_after place) after
   mends = by_rule (cases_Bool (anchors_hold size blocks disk volume)) where
     by_rule : (anchors_hold size blocks disk volume ≡ true) ⊎ (anchors_hold size blocks disk volume ≡ false) → (place : ℕ) × IsMended size blocks volume (volume_after place) after

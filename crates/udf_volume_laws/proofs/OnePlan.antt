@@ -4,7 +4,7 @@ use Rattle.std.specs.List.{filter, range_with_len}
 use Rattle.std.specs.Str.{bytes_eq}
 use Rattle.std.proofs.lemmas.Bool.{eq-eqb, ne_eqb, cases_order, cases_lt, cases_eq}
 use Rattle.udf_model.specs.Image.{block_of, blocks_in}
-use Rattle.udf_volume_model.specs.Accepted.{difference, plan_of}
+use Rattle.udf_volume_model.specs.Opened.{difference, plan_of}
 use Rattle.udf_volume_model.specs.Plans.{planned, ClimbsFrom, IsPlan}
 
 here : (n : ℕ) (edit : ℕ × List ℕ) (edits : List (ℕ × List ℕ)) → n ≡ edit.0 → planned n (edit ∷ edits) ≡ Some edit.1

@@ -8,28 +8,28 @@ use Rattle.udf_volume_model.specs.Kept.{Volume, volume_of}
 use Rattle.udf_volume_model.specs.Areas.{Area, area_of, covers}
 use Rattle.udf_volume_model.specs.Rules.{anchors_hold, sequences_hold, rules_hold}
 use Rattle.udf_volume_model.specs.Edits.{look, put_blocks, are_edits, is_off}
-use Rattle.udf_volume_model.specs.Accepted.{is_accepted_by, is_accepted, is_unbroken_by, is_unbroken}
+use Rattle.udf_volume_model.specs.Opened.{is_opened_by, is_opened, is_volume_unbroken_by, is_volume_unbroken}
 use Rattle.udf_volume_model.specs.Same.{is_read, IsUnmoved}
 use Rattle.udf_volume_laws.proofs.Members.{IsIn}
 use Rattle.udf_volume_laws.proofs.Puts.{AreWithin, IsOff, off, all_length, block_after}
 use Rattle.udf_volume_laws.proofs.Within.{block_ends}
-use Rattle.udf_volume_laws.proofs.After.{IsAccepted}
+use Rattle.udf_volume_laws.proofs.After.{IsOpened}
 use Rattle.udf_volume_laws.proofs.Frame.{AgreeOn, frame, same_anchors, same_sequences}
 use Rattle.udf_volume_laws.proofs.Final.{held_of, block_length}
 
-made : (size : ℕ) (image other : List ℕ) (volume : Volume) → is_accepted size image ≡ true → volume_of size image ≡ Some volume
-    → IsAccepted size (blocks_in size other) (block_of size other) volume
+made : (size : ℕ) (image other : List ℕ) (volume : Volume) → is_opened size image ≡ true → volume_of size image ≡ Some volume
+    → IsOpened size (blocks_in size other) (block_of size other) volume
     → anchors_hold size (blocks_in size image) (block_of size image) volume ≡ anchors_hold size (blocks_in size other) (block_of size other) volume
     → sequences_hold size (block_of size image) volume ≡ sequences_hold size (block_of size other) volume → IsUnmoved size image other
-unfolding volume_of is_accepted is_unbroken rules_hold
-made size image other volume accepted is a second third = record {
+unfolding volume_of is_opened is_volume_unbroken rules_hold
+made size image other volume opened is a second third = record {
   volume = a.is ∙ sym is;
-  accepted = and_from _ _ (lt-ltb _ _ a.small) (ap (is_accepted_by size (blocks_in size other) (block_of size other)) a.is ∙ a.accepted) ∙ sym accepted;
+  opened = and_from _ _ (lt-ltb _ _ a.small) (ap (is_opened_by size (blocks_in size other) (block_of size other)) a.is ∙ a.opened) ∙ sym opened;
   unbroken =
-      ap (is_unbroken_by size other) a.is
+      ap (is_volume_unbroken_by size other) a.is
       ∙ ap (λ b. b && sequences_hold size (block_of size other) volume) (sym second)
       ∙ ap (λ b. anchors_hold size (blocks_in size image) (block_of size image) volume && b) (sym third)
-      ∙ ap (is_unbroken_by size image) (sym is);
+      ∙ ap (is_volume_unbroken_by size image) (sym is);
 }
 
 covered : (area : Area) (n : ℕ) → area.start ≤ n → n < area.start + area.count → covers area n ≡ true
@@ -49,7 +49,7 @@ agreed size blocks disk other volume h = record {
   at_places = λ n i e. h n (or_right _ _ (or_right _ _ (and_from _ _ (named n (places blocks) i) e)));
 }
 
-pub unmoved : (size : ℕ) (image other : List ℕ) (volume : Volume) → 512 ≤ size → is_accepted size image ≡ true → volume_of size image ≡ Some volume
+pub unmoved : (size : ℕ) (image other : List ℕ) (volume : Volume) → 512 ≤ size → is_opened size image ≡ true → volume_of size image ≡ Some volume
     → length other ≡ length image
     → ((n : ℕ) → is_read size (blocks_in size image) volume n ≡ true → block_of size other n ≡ block_of size image n) → IsUnmoved size image other
 unmoved size image other volume large a is long same =
@@ -59,7 +59,7 @@ unmoved size image other volume large a is long same =
     let next = frame size (blocks_in size image) (block_of size image) (block_of size other) volume held agree
     (λ n l. block_length size other n (omega (arith, count))) in
     made size image other volume a is
-    (subst (λ (n : ℕ). IsAccepted size n (block_of size other) volume) (sym count) next)
+    (subst (λ (n : ℕ). IsOpened size n (block_of size other) volume) (sym count) next)
     (same_anchors size (blocks_in size image) (block_of size image) (block_of size other) volume held agree
     ∙ ap (λ n. anchors_hold size n (block_of size other) volume) (sym count))
     (same_sequences size (blocks_in size image) (block_of size image) (block_of size other) volume held agree)
@@ -90,7 +90,7 @@ put_block_is size image edits n e = block_after size edits image n (within size 
 pub look_off : (n : ℕ) (edits : List (ℕ × List ℕ)) (block : List ℕ) → is_off n edits ≡ true → look n edits block ≡ block
 look_off n edits block e = off n edits block (nowhere n edits e)
 
-pub elsewhere : (size : ℕ) (image : List ℕ) (volume : Volume) (edits : List (ℕ × List ℕ)) → 512 ≤ size → is_accepted size image ≡ true → volume_of size image ≡ Some volume
+pub elsewhere : (size : ℕ) (image : List ℕ) (volume : Volume) (edits : List (ℕ × List ℕ)) → 512 ≤ size → is_opened size image ≡ true → volume_of size image ≡ Some volume
     → are_edits size (blocks_in size image) edits ≡ true → ((n : ℕ) → is_read size (blocks_in size image) volume n ≡ true → is_off n edits ≡ true)
     → IsUnmoved size image (put_blocks size edits image)
 elsewhere size image volume edits large a is fit apart =

@@ -3,7 +3,7 @@
 //! definitions of volumes; the layers above cite the laws through the same definitions.
 #![tactic(auto)]
 
-ghost use Rattle.std.specs.Prelude.{◌≡◌, ◌≤◌, ℕ, List, [], Some, None, length, slice_get, true, false};
+ghost use Rattle.std.specs.Prelude.{◌≡◌, ◌<◌, ◌≤◌, ℕ, List, [], Some, None, length, slice_get, true, false};
 ghost use Rattle.udf_model.specs.Image.{block_of, blocks_in};
 ghost use Rattle.udf_volume_model.specs.Sequence.{Descriptor};
 ghost use Rattle.udf_volume_model.specs.Prevailing.{is_of, prevailing, prevailing_index, Prevails};
@@ -13,9 +13,9 @@ ghost use Rattle.udf_volume_model.specs.Rules.{findings, rules_hold};
 ghost use Rattle.udf_volume_model.specs.Order.{Ascends};
 ghost use Rattle.udf_volume_model.specs.Edits.{look, put_blocks, are_edits, is_off};
 ghost use Rattle.udf_volume_model.specs.Mended.{edits};
-ghost use Rattle.udf_volume_model.specs.Accepted.{is_accepted, mended, is_unbroken, difference, plan_of, is_sealed};
+ghost use Rattle.udf_volume_model.specs.Opened.{is_opened, volume_mended, is_volume_unbroken, difference, plan_of, is_sealed};
 ghost use Rattle.udf_volume_model.specs.Same.{IsSameVolume, is_read, IsUnmoved};
-ghost use Rattle.udf_volume_model.specs.Plans.{IsPlan};
+ghost use Rattle.udf_volume_model.specs.Plans.{IsPlan, IsRewrite};
 
 /// Of a kind and subject the descriptor prevails that has the highest sequence number, the earliest of equals; it is one,
 /// and there is none only where the list has no descriptor of that kind and subject.
@@ -52,53 +52,55 @@ pub fn edits_law()
     ensures off { (n : ℕ) (edits : List (ℕ × List ℕ)) (block : List ℕ) → is_off n edits ≡ true → look n edits block ≡ block }
 {}
 
-/// The mended image of an accepted one is accepted, breaks no rule, and is the same volume, whose kept anchor stands where it
+/// The mended image of one whose volume is opened has it opened, breaks no rule, and is the same volume, whose kept anchor stands where it
 /// stood or at an earlier place and whose kept sequence is the main one; mending it again changes nothing. A broken rule makes a difference, and no broken rule none.
 pub fn mend_law()
-    ensures same_length { (size : ℕ) (image : List ℕ) → 512 ≤ size → length (mended size image) ≡ length image }
-    ensures accepted { (size : ℕ) (image : List ℕ) → 512 ≤ size → is_accepted size image ≡ true → is_accepted size (mended size image) ≡ true }
-    ensures unbroken { (size : ℕ) (image : List ℕ) → 512 ≤ size → is_accepted size image ≡ true → is_unbroken size (mended size image) ≡ true }
-    ensures volume { (size : ℕ) (image : List ℕ) → 512 ≤ size → is_accepted size image ≡ true
-        → IsSameVolume size (blocks_in size image) (volume_of size image) (volume_of size (mended size image)) }
-    ensures again { (size : ℕ) (image : List ℕ) → 512 ≤ size → mended size (mended size image) ≡ mended size image }
-    ensures still { (size : ℕ) (image : List ℕ) → is_unbroken size image ≡ true → mended size image ≡ image }
-    ensures differs { (size : ℕ) (image : List ℕ) → 512 ≤ size → is_accepted size image ≡ true → is_unbroken size image ≡ false
-        → 1 ≤ length (difference size image (mended size image)) }
-    ensures alike { (size : ℕ) (image : List ℕ) → is_unbroken size image ≡ true → difference size image (mended size image) ≡ [] }
+    ensures same_length { (size : ℕ) (image : List ℕ) → 512 ≤ size → length (volume_mended size image) ≡ length image }
+    ensures opened { (size : ℕ) (image : List ℕ) → 512 ≤ size → is_opened size image ≡ true → is_opened size (volume_mended size image) ≡ true }
+    ensures unbroken { (size : ℕ) (image : List ℕ) → 512 ≤ size → is_opened size image ≡ true → is_volume_unbroken size (volume_mended size image) ≡ true }
+    ensures volume { (size : ℕ) (image : List ℕ) → 512 ≤ size → is_opened size image ≡ true
+        → IsSameVolume size (blocks_in size image) (volume_of size image) (volume_of size (volume_mended size image)) }
+    ensures again { (size : ℕ) (image : List ℕ) → 512 ≤ size → volume_mended size (volume_mended size image) ≡ volume_mended size image }
+    ensures still { (size : ℕ) (image : List ℕ) → is_volume_unbroken size image ≡ true → volume_mended size image ≡ image }
+    ensures differs { (size : ℕ) (image : List ℕ) → 512 ≤ size → is_opened size image ≡ true → is_volume_unbroken size image ≡ false
+        → 1 ≤ length (difference size image (volume_mended size image)) }
+    ensures alike { (size : ℕ) (image : List ℕ) → is_volume_unbroken size image ≡ true → difference size image (volume_mended size image) ≡ [] }
 {}
 
 /// What the mends write: the blocks of the edits, none of which is a block of the partition, a sealed one or one past the
 /// whole blocks of the image.
 pub fn written_law()
-    ensures blocks { (size : ℕ) (image : List ℕ) (volume : Volume) (n : ℕ) → 512 ≤ size → is_accepted size image ≡ true
+    ensures blocks { (size : ℕ) (image : List ℕ) (volume : Volume) (n : ℕ) → 512 ≤ size → is_opened size image ≡ true
         → volume_of size image ≡ Some volume
-        → block_of size (mended size image) n ≡ look n (edits size (blocks_in size image) (block_of size image) volume) (block_of size image n) }
-    ensures partition { (size : ℕ) (image : List ℕ) (volume : Volume) (n : ℕ) → 512 ≤ size → is_accepted size image ≡ true
+        → block_of size (volume_mended size image) n ≡ look n (edits size (blocks_in size image) (block_of size image) volume) (block_of size image n) }
+    ensures partition { (size : ℕ) (image : List ℕ) (volume : Volume) (n : ℕ) → 512 ≤ size → is_opened size image ≡ true
         → volume_of size image ≡ Some volume → covers (partition_area volume.list) n ≡ true
-        → block_of size (mended size image) n ≡ block_of size image n }
-    ensures sealed { (size : ℕ) (image : List ℕ) (volume : Volume) (n : ℕ) → 512 ≤ size → is_accepted size image ≡ true
+        → block_of size (volume_mended size image) n ≡ block_of size image n }
+    ensures sealed { (size : ℕ) (image : List ℕ) (volume : Volume) (n : ℕ) → 512 ≤ size → is_opened size image ≡ true
         → volume_of size image ≡ Some volume → is_sealed volume n ≡ true
-        → block_of size (mended size image) n ≡ block_of size image n }
+        → block_of size (volume_mended size image) n ≡ block_of size image n }
     ensures past { (size : ℕ) (image : List ℕ) (n : ℕ) → 512 ≤ size → blocks_in size image ≤ n
-        → block_of size (mended size image) n ≡ block_of size image n }
+        → block_of size (volume_mended size image) n ≡ block_of size image n }
 {}
 
-/// A volume, its acceptance and its rules are read from the blocks of both sequence extents and from the places outside
+/// A volume, its refusals and its rules are read from the blocks of both sequence extents and from the places outside
 /// its areas: an image that agrees there has the same, and so has the image with blocks put elsewhere.
 pub fn frame_law()
-    ensures agree { (size : ℕ) (image other : List ℕ) (volume : Volume) → 512 ≤ size → is_accepted size image ≡ true
+    ensures agree { (size : ℕ) (image other : List ℕ) (volume : Volume) → 512 ≤ size → is_opened size image ≡ true
         → volume_of size image ≡ Some volume → length other ≡ length image
         → ((n : ℕ) → is_read size (blocks_in size image) volume n ≡ true → block_of size other n ≡ block_of size image n)
         → IsUnmoved size image other }
-    ensures elsewhere { (size : ℕ) (image : List ℕ) (volume : Volume) (edits : List (ℕ × List ℕ)) → 512 ≤ size → is_accepted size image ≡ true
+    ensures elsewhere { (size : ℕ) (image : List ℕ) (volume : Volume) (edits : List (ℕ × List ℕ)) → 512 ≤ size → is_opened size image ≡ true
         → volume_of size image ≡ Some volume → are_edits size (blocks_in size image) edits ≡ true
         → ((n : ℕ) → is_read size (blocks_in size image) volume n ≡ true → is_off n edits ≡ true)
         → IsUnmoved size image (put_blocks size edits image) }
 {}
 
-/// The plan is the one list that is exactly the difference, and put on the image it gives the mended one.
+/// The plan is the one list that is exactly the difference of two images, and put on the first it gives the second, where
+/// they differ at most in whole blocks. The mended image is such a second one.
 pub fn plan_law()
     ensures exact { (size : ℕ) (image after : List ℕ) → IsPlan size image after (plan_of size image after) }
     ensures one { (size : ℕ) (image after : List ℕ) (plan : List (ℕ × List ℕ)) → IsPlan size image after plan → plan ≡ plan_of size image after }
-    ensures applied { (size : ℕ) (image : List ℕ) → 512 ≤ size → put_blocks size (plan_of size image (mended size image)) image ≡ mended size image }
+    ensures applied { (size : ℕ) (image after : List ℕ) → 0 < size → IsRewrite size image after → put_blocks size (plan_of size image after) image ≡ after }
+    ensures mended { (size : ℕ) (image : List ℕ) → 512 ≤ size → IsRewrite size image (volume_mended size image) }
 {}

@@ -9,7 +9,7 @@ pub mod Profile
 pub mod Layout
 pub mod Edits
 pub mod Mended
-pub mod Accepted
+pub mod Opened
 pub mod Same
 pub mod Order
 pub mod Plans

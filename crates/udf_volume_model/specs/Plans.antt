@@ -1,5 +1,5 @@
 -- What a plan has for each sector, and when it is exactly the difference of two images.
-use Rattle.std.specs.Prelude.{◌≡◌, ℕ, ◌+◌, ◌<◌, ◌≤◌, ◌==◌, Option, Some, None, if◌then◌else◌, List, [], ◌∷◌}
+use Rattle.std.specs.Prelude.{◌≡◌, ℕ, ◌+◌, ◌<◌, ◌≤◌, ◌==◌, Option, Some, None, if◌then◌else◌, List, [], ◌∷◌, length}
 use Rattle.std.specs.Str.{bytes_eq}
 use Rattle.udf_model.specs.Image.{block_of, blocks_in}
 
@@ -19,3 +19,8 @@ pub record IsPlan (size : ℕ) (image after : List ℕ) (plan : List (ℕ × Lis
   pub differing : (n : ℕ) → n < blocks_in size image
       → planned n plan ≡ (if bytes_eq (block_of size image n) (block_of size after n) then None else Some (block_of size after n))
   pub further : (n : ℕ) → blocks_in size image ≤ n → planned n plan ≡ None
+
+-- an image of the same length that differs from one at most in whole blocks
+pub record IsRewrite (size : ℕ) (image after : List ℕ) : Type 0 where
+  pub same_length : length after ≡ length image
+  pub same_past : (n : ℕ) → blocks_in size image ≤ n → block_of size after n ≡ block_of size image n

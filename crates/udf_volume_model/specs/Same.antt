@@ -5,7 +5,7 @@ use Rattle.udf_volume_model.specs.Anchor.{places}
 use Rattle.udf_volume_model.specs.Kept.{Volume, Main, volume_of}
 use Rattle.udf_volume_model.specs.Areas.{area_of, areas_of, covers, is_outside}
 use Rattle.udf_volume_model.specs.Layout.{earlier}
-use Rattle.udf_volume_model.specs.Accepted.{is_accepted, is_unbroken}
+use Rattle.udf_volume_model.specs.Opened.{is_opened, is_volume_unbroken}
 
 -- Volumes of the same extents, areas and descriptors, in an image of so many blocks. The kept anchor stands where it stood or
 -- at an earlier place, and the kept sequence is the main one.
@@ -21,15 +21,15 @@ IsSameVolume size blocks (Some before) (Some after) = IsSame size blocks before 
 IsSameVolume size blocks None after = ⊥
 IsSameVolume size blocks (Some before) None = ⊥
 
--- a volume, acceptance and the rules are read from the sectors of both sequence extents and from the places outside the areas
+-- a volume, its refusals and the rules are read from the sectors of both sequence extents and from the places outside the areas
 unfoldable pub is_read : ℕ → ℕ → Volume → ℕ → Bool
 is_read size blocks volume n =
     covers (area_of size volume.anchor.main) n
     || (covers (area_of size volume.anchor.reserve) n
     || (list_any (λ place. place == n) (places blocks) && is_outside (areas_of size volume.anchor volume.list) n))
 
--- the other image has the same volume, is accepted, and breaks a rule exactly where the image does
+-- the other image has the same volume, is opened where it is, and breaks a rule exactly where the image does
 pub record IsUnmoved (size : ℕ) (image other : List ℕ) : Type 0 where
   pub volume : volume_of size other ≡ volume_of size image
-  pub accepted : is_accepted size other ≡ is_accepted size image
-  pub unbroken : is_unbroken size other ≡ is_unbroken size image
+  pub opened : is_opened size other ≡ is_opened size image
+  pub unbroken : is_volume_unbroken size other ≡ is_volume_unbroken size image

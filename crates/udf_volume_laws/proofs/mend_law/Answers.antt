@@ -1,7 +1,7 @@
 use Rattle.std.proofs.Common.{sym, subst, Option, Some}
 use Rattle.udf_model.specs.Image.{blocks_in}
 use Rattle.udf_volume_model.specs.Kept.{Volume, volume_of}
-use Rattle.udf_volume_model.specs.Accepted.{mended}
+use Rattle.udf_volume_model.specs.Opened.{volume_mended}
 use Rattle.udf_volume_model.specs.Same.{IsSameVolume}
 use Rattle.udf_volume_laws.proofs.Final.{mended_image}
 use Rattle.udf_volume_laws.proofs.Twice.{stays, mended_twice}
@@ -11,8 +11,8 @@ use Rattle.udf_volume_laws.proofs.mend_law.Goals as goal
 pub returns-clause-same_length : goal.returns-clause-same_length
 returns-clause-same_length c = length_kept
 
-pub returns-clause-accepted : goal.returns-clause-accepted
-returns-clause-accepted c = λ size image large a. (mended_image size image large a).accepted
+pub returns-clause-opened : goal.returns-clause-opened
+returns-clause-opened c = λ size image large a. (mended_image size image large a).opened
 
 pub returns-clause-unbroken : goal.returns-clause-unbroken
 returns-clause-unbroken c = λ size image large a. (mended_image size image large a).rules
@@ -20,7 +20,7 @@ returns-clause-unbroken c = λ size image large a. (mended_image size image larg
 pub returns-clause-volume : goal.returns-clause-volume
 returns-clause-volume c = λ size image large a.
     let m = mended_image size image large a in
-    subst (λ (o : Option Volume). IsSameVolume size (blocks_in size image) o (volume_of size (mended size image))) (sym m.before_volume)
+    subst (λ (o : Option Volume). IsSameVolume size (blocks_in size image) o (volume_of size (volume_mended size image))) (sym m.before_volume)
     (subst (λ (o : Option Volume). IsSameVolume size (blocks_in size image) (Some m.before_is) o) (sym m.after_volume) m.same)
 
 pub returns-clause-again : goal.returns-clause-again

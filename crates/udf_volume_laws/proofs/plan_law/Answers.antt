@@ -1,5 +1,5 @@
 use Rattle.udf_volume_laws.proofs.OnePlan.{the_plan, plan_is}
-use Rattle.udf_volume_laws.proofs.Applied.{plan_gives}
+use Rattle.udf_volume_laws.proofs.Applied.{plan_gives, mended_rewrites}
 use Rattle.udf_volume_laws.proofs.plan_law.Goals as goal
 
 pub returns-clause-exact : goal.returns-clause-exact
@@ -10,3 +10,6 @@ returns-clause-one c = the_plan
 
 pub returns-clause-applied : goal.returns-clause-applied
 returns-clause-applied c = plan_gives
+
+pub returns-clause-mended : goal.returns-clause-mended
+returns-clause-mended c = mended_rewrites

@@ -1,4 +1,4 @@
--- Images that are accepted for a repair, the mended image, and its difference from the image.
+-- Images with a lawful volume description, the mended image, and its difference from the image.
 use Rattle.std.specs.Prelude.{ℕ, Bool, false, Option, Some, None, not, ◌&&◌, nat_lt, if◌then◌else◌, List, length, filter, map}
 use Rattle.std.specs.List.{range_with_len}
 use Rattle.std.specs.Str.{bytes_eq}
@@ -11,32 +11,39 @@ use Rattle.udf_volume_model.specs.Rules.{rules_hold}
 use Rattle.udf_volume_model.specs.Edits.{put_blocks}
 use Rattle.udf_volume_model.specs.Mended.{edits}
 
-abbrev pub is_accepted_by : ℕ → ℕ → (ℕ → List ℕ) → Option Volume → Bool
-is_accepted_by size blocks disk None = false
-is_accepted_by size blocks disk (Some volume) =
-    is_profile size volume.list && (is_lawful size blocks disk volume && not (is_protected volume.list))
+abbrev pub is_opened_by : ℕ → ℕ → (ℕ → List ℕ) → Option Volume → Bool
+is_opened_by size blocks disk None = false
+is_opened_by size blocks disk (Some volume) = is_profile size volume.list && is_lawful size blocks disk volume
 
--- no refusal applies
-unfoldable pub is_accepted : ℕ → List ℕ → Bool
-is_accepted size image =
+-- a volume is opened: no refusal of its description applies
+unfoldable pub is_opened : ℕ → List ℕ → Bool
+is_opened size image =
     nat_lt (blocks_in size image) 4294967296
-    && is_accepted_by size (blocks_in size image) (block_of size image) (volume_of size image)
+    && is_opened_by size (blocks_in size image) (block_of size image) (volume_of size image)
+
+abbrev pub is_protected_by : Option Volume → Bool
+is_protected_by None = false
+is_protected_by (Some volume) = is_protected volume.list
+
+-- the descriptors of the kept sequence say that the volume is not to be written
+unfoldable pub is_protected_image : ℕ → List ℕ → Bool
+is_protected_image size image = is_protected_by (volume_of size image)
 
 abbrev pub mended_by : ℕ → List ℕ → Option Volume → List ℕ
 mended_by size image None = image
 mended_by size image (Some volume) = put_blocks size (edits size (blocks_in size image) (block_of size image) volume) image
 
--- the image with each structure that breaks a rule mended, where it is accepted
-unfoldable pub mended : ℕ → List ℕ → List ℕ
-mended size image = if is_accepted size image then mended_by size image (volume_of size image) else image
+-- the image with each structure of its volume that breaks a rule mended; an image without a volume has no such structure
+unfoldable pub volume_mended : ℕ → List ℕ → List ℕ
+volume_mended size image = if is_opened size image then mended_by size image (volume_of size image) else image
 
-abbrev pub is_unbroken_by : ℕ → List ℕ → Option Volume → Bool
-is_unbroken_by size image None = false
-is_unbroken_by size image (Some volume) = rules_hold size (blocks_in size image) (block_of size image) volume
+abbrev pub is_volume_unbroken_by : ℕ → List ℕ → Option Volume → Bool
+is_volume_unbroken_by size image None = false
+is_volume_unbroken_by size image (Some volume) = rules_hold size (blocks_in size image) (block_of size image) volume
 
--- there is a volume, and both rules hold on it
-unfoldable pub is_unbroken : ℕ → List ℕ → Bool
-is_unbroken size image = is_unbroken_by size image (volume_of size image)
+-- there is a kept sequence, and the rules hold on its volume
+unfoldable pub is_volume_unbroken : ℕ → List ℕ → Bool
+is_volume_unbroken size image = is_volume_unbroken_by size image (volume_of size image)
 
 -- the sectors in which two images differ
 unfoldable pub difference : ℕ → List ℕ → List ℕ → List ℕ
