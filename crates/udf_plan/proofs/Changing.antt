@@ -10,9 +10,9 @@ use Rattle.udf_model.specs.Tag.{relocated}
 use Rattle.udf_volume_model.specs.Anchor.{Anchor}
 use Rattle.udf_volume_model.specs.Rules.{is_good}
 use Rattle.udf_volume_laws.proofs.Same.{bytes_same}
-use Rattle.udf_plan.specs.Planned.{Planned, are_at, are_below}
+use Rattle.udf_blocks.specs.Planned.{Planned, are_at, are_below}
 use Rattle.udf_plan.specs.Changes.{changes, anchor_after, copy_after, KeepsTo, AscendFrom}
-use Rattle.udf_plan.proofs.Growing.{at_more}
+use Rattle.udf_blocks.proofs.Growing.{at_more}
 
 alike : (disk after : ℕ → List ℕ) (n : ℕ) → bytes_eq (disk n) (after n) ≡ true → changes disk after (n ∷ []) ≡ []
 unfolding changes

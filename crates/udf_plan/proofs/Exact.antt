@@ -14,7 +14,7 @@ use Rattle.udf_volume_model.specs.Kept.{kept, other, limit_of, sequence_at}
 use Rattle.udf_volume_model.specs.Areas.{areas_of}
 use Rattle.udf_volume_model.specs.Rules.{ascending_places, is_eligible, eligible, is_good, good_of, bad_of, anchors_hold, sequences_hold, agrees}
 use Rattle.udf_volume_model.specs.Mended.{block_by, logical_block, end_block}
-use Rattle.udf_volume_model.specs.Accepted.{is_accepted, mended, plan_of}
+use Rattle.udf_volume_model.specs.Opened.{is_opened, volume_mended, plan_of}
 use Rattle.udf_volume_model.specs.Plans.{planned, ClimbsFrom}
 use Rattle.udf_volume_laws.proofs.Members.{IsIn, kept_in, in_kept}
 use Rattle.udf_volume_laws.proofs.Same.{bytes_same}
@@ -251,14 +251,14 @@ module _ (size : ℕ) (image : List ℕ) (volume : Volume) (v : model.Volume) (d
       ∙ ap (λ xs. by_parts size v.anchor (block_of size image v.place) (other v).start xs (sequence_changes volume image)) (p ∙ wanted_is)
       ∙ ap (λ m. by_parts size v.anchor (block_of size image v.place) (other v).start ruled m) sequence_is
 
-  module _ (large : 512 ≤ size) (accepted : is_accepted size image ≡ true) where
+  module _ (large : 512 ≤ size) (accepted : is_opened size image ≡ true) where
     abbrev final : ℕ → List ℕ
-    final n = block_of size (mended size image) n
+    final n = block_of size (volume_mended size image) n
 
-    ruled_final : (n : ℕ) → IsIn n ruled → anchor_after (block_of size image) v.anchor (block_of size image v.place) n ≡ block_of size (mended size image) n
+    ruled_final : (n : ℕ) → IsIn n ruled → anchor_after (block_of size image) v.anchor (block_of size image v.place) n ≡ block_of size (volume_mended size image) n
     ruled_final n i = by_rule (anchors_hold size (blocks_in size image) (block_of size image) v) refl i where
       by_rule : (b : Bool) → anchors_hold size (blocks_in size image) (block_of size image) v ≡ b → IsIn n (cond b [] (eligible size (blocks_in size image) v))
-          → anchor_after (block_of size image) v.anchor (block_of size image v.place) n ≡ block_of size (mended size image) n
+          → anchor_after (block_of size image) v.anchor (block_of size image v.place) n ≡ block_of size (volume_mended size image) n
       by_rule true e j = absurd j
       by_rule false e j = place_final size image v large accepted d.found e n j
 
@@ -286,10 +286,10 @@ module _ (size : ℕ) (image : List ℕ) (volume : Volume) (v : model.Volume) (d
         (λ n i. by_one n i))
         ∙ sym (changes_both (block_of size image) final (range_with_len (other v).start (length v.list)) (((other v).start + length v.list) ∷ [])) where
           by_one : (n : ℕ) → IsIn n (((other v).start + length v.list) ∷ [])
-              → end_block size n (block_of size image ((kept v).start + length v.list)) (logical_block (block_of size image) v) ≡ block_of size (mended size image) n
+              → end_block size n (block_of size image ((kept v).start + length v.list)) (logical_block (block_of size image) v) ≡ block_of size (volume_mended size image) n
           by_one n (inl at) =
               ap (λ m. end_block size m (block_of size image ((kept v).start + length v.list)) (logical_block (block_of size image) v)) at
-              ∙ sym (end_final size image v large accepted d.found e) ∙ ap (λ m. block_of size (mended size image) m) (sym at)
+              ∙ sym (end_final size image v large accepted d.found e) ∙ ap (λ m. block_of size (volume_mended size image) m) (sym at)
           by_one n (inr i) = absurd i
 
     -- every sector that differs is among them
@@ -329,7 +329,7 @@ module _ (size : ℕ) (image : List ℕ) (volume : Volume) (v : model.Volume) (d
       by_rule true e f = inl e
       by_rule false e f = inr f
 
-    whole : (n : ℕ) → (IsIn n sectors → ⊥) → block_of size (mended size image) n ≡ block_of size image n
+    whole : (n : ℕ) → (IsIn n sectors → ⊥) → block_of size (volume_mended size image) n ≡ block_of size image n
     whole n off = off_final size image v large accepted d.found n (sequence_off n off) (anchors_off n off)
 
     changes_are : (block places : List ℕ) → block ≡ block_of volume.size image volume.anchor → places ≡ to_mend (eligible_stated volume) (bad_stated volume image)
@@ -351,10 +351,10 @@ module _ (size : ℕ) (image : List ℕ) (volume : Volume) (v : model.Volume) (d
     -- the plan is the difference
     pub exact : (plan : List (ℕ × List ℕ)) (block places : List ℕ) → ClimbsFrom 0 plan → plan ≡ all_changes volume image block places
         → block ≡ block_of volume.size image volume.anchor → places ≡ to_mend (eligible_stated volume) (bad_stated volume image)
-        → plan ≡ plan_of size image (mended size image)
+        → plan ≡ plan_of size image (volume_mended size image)
     exact plan block places climbs is b p =
         let added : plan ≡ changes (block_of size image) final sectors = is ∙ changes_are block places b p in
-        the_plan size image (mended size image) plan (record {
+        the_plan size image (volume_mended size image) plan (record {
           ascends = climbs;
           differing = λ n l. ap (planned n) added ∙ looked_up (block_of size image) final sectors whole n;
           further = λ n h. ap (planned n) added ∙ alike_out (block_of size image) final sectors whole n

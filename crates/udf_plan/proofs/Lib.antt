@@ -1,4 +1,3 @@
-pub mod Growing
 pub mod Changing
 pub mod Terminators
 pub mod Rooms

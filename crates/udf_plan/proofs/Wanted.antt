@@ -7,11 +7,11 @@ use Rattle.udf_volume_model.specs.Kept.{Volume, kept, other, volume_of}
 use Rattle.udf_volume_model.specs.Rules.{ascending_places, is_eligible, eligible, is_good, bad_of, anchors_hold, sequences_hold}
 use Rattle.udf_volume_model.specs.Edits.{look}
 use Rattle.udf_volume_model.specs.Mended.{logical_block, end_block, copies, sequence_edits, anchor_edits, edits}
-use Rattle.udf_volume_model.specs.Accepted.{is_accepted, mended}
+use Rattle.udf_volume_model.specs.Opened.{is_opened, volume_mended}
 use Rattle.udf_volume_laws.proofs.Members.{IsIn, kept_in}
 use Rattle.udf_volume_laws.proofs.Puts.{IsOff, off, off_both, look_both, look_here, look_past, chosen, chosen_off}
 use Rattle.udf_volume_laws.proofs.Copies.{copies_below, copies_above}
-use Rattle.udf_volume_laws.proofs.After.{IsAccepted, areas_in, put_there, good_stays, outside_of}
+use Rattle.udf_volume_laws.proofs.After.{IsOpened, areas_in, put_there, good_stays, outside_of}
 use Rattle.udf_volume_laws.proofs.Final.{held_of}
 use Rattle.udf_volume_laws.proofs.Difference.{mended_block}
 use Rattle.udf_plan.specs.Changes.{anchor_after}
@@ -50,7 +50,7 @@ look_end size disk like (suc count) from to base =
     ∙ look_end size disk like count (from + 1) (to + 1) base
     ∙ ap (λ n. end_block size n (disk (from + 1 + count)) like) (sym t) ∙ ap (λ n. end_block size (to + suc count) (disk n) like) f
 
-module _ (size : ℕ) (image : List ℕ) (volume : Volume) (large : 512 ≤ size) (accepted : is_accepted size image ≡ true) (is : volume_of size image ≡ Some volume) where
+module _ (size : ℕ) (image : List ℕ) (volume : Volume) (large : 512 ≤ size) (accepted : is_opened size image ≡ true) (is : volume_of size image ≡ Some volume) where
   abbrev disk : ℕ → List ℕ
   disk = block_of size image
 
@@ -58,9 +58,9 @@ module _ (size : ℕ) (image : List ℕ) (volume : Volume) (large : 512 ≤ size
   blocks = blocks_in size image
 
   abbrev final : ℕ → List ℕ
-  final n = block_of size (mended size image) n
+  final n = block_of size (volume_mended size image) n
 
-  held : IsAccepted size (blocks_in size image) (block_of size image) volume
+  held : IsOpened size (blocks_in size image) (block_of size image) volume
   held = held_of size image volume large accepted is
 
   by_edits : (n : ℕ) → final n ≡ look n (edits size blocks disk volume) (disk n)
@@ -75,7 +75,7 @@ module _ (size : ℕ) (image : List ℕ) (volume : Volume) (large : 512 ≤ size
     member = kept_in (is_eligible (areas_in size volume)) (ascending_places (blocks_in size image)) n i
 
     by_good : (is_good volume.anchor n (block_of size image n) ≡ true) ⊎ (is_good volume.anchor n (block_of size image n) ≡ false)
-        → anchor_after (block_of size image) volume.anchor (block_of size image volume.place) n ≡ block_of size (mended size image) n
+        → anchor_after (block_of size image) volume.anchor (block_of size image volume.place) n ≡ block_of size (volume_mended size image) n
     by_good (inl good) =
         ap (λ b. cond b (block_of size image n) (relocated n (block_of size image volume.place))) good
         ∙ sym (by_edits n

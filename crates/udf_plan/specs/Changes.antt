@@ -5,7 +5,7 @@ use Rattle.std.specs.Str.{bytes_eq}
 use Rattle.udf_model.specs.Tag.{relocated}
 use Rattle.udf_volume_model.specs.Anchor.{Anchor}
 use Rattle.udf_volume_model.specs.Rules.{is_good}
-use Rattle.udf_plan.specs.Planned.{are_at}
+use Rattle.udf_blocks.specs.Planned.{are_at}
 
 -- the sectors of these whose blocks differ on two disks, with the blocks of the second
 unfoldable pub changes : (ℕ → List ℕ) → (ℕ → List ℕ) → List ℕ → List (ℕ × List ℕ)
@@ -33,6 +33,6 @@ abbrev pub AscendFrom : ℕ → List ℕ → Type 0
 AscendFrom from [] = Unit {0}
 AscendFrom from (n ∷ rest) = (from ≤ n) × AscendFrom (n + 1) rest
 
--- the rule on anchors wants these places mended, of which those are bad: all, unless at least two are good or none is bad
+-- the rule on anchors wants these places volume_mended, of which those are bad: all, unless at least two are good or none is bad
 unfoldable pub to_mend : List ℕ → List ℕ → List ℕ
 to_mend places bad = if nat_le 2 (length places - length bad) || (length bad == 0) then [] else places

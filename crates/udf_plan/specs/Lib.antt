@@ -1,4 +1,2 @@
-pub mod Planned
-pub mod Recorded
 pub mod Changes
 pub mod Stated

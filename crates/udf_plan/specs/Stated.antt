@@ -12,7 +12,6 @@ use Rattle.udf_volume.specs.Seen.{extent_seen}
 use Rattle.udf_volume.specs.Areas.{anchor_stated, areas_stated}
 use Rattle.udf_volume.specs.Spans.{kept_span, other_span, limit_stated, said_in}
 use Rattle.udf_volume.specs.declared.volume.Volume.{Volume}
-use Rattle.udf_plan.specs.Planned.{Planned, are_at, are_below, IsLawful}
 use Rattle.udf_plan.specs.Changes.{changes, anchor_after, copy_after, block_at, AscendFrom}
 
 -- the descriptors that the kept extent lists
@@ -64,19 +63,8 @@ all_changes volume image kept places =
     ++ changes (block_of volume.size image) (anchor_after (block_of volume.size image) (anchor_stated volume) kept)
     (filter (λ place. nat_le (other_span volume).start place) places))
 
--- the blocks of the kept descriptors
-abbrev pub sealed_stated : Volume → Area
-sealed_stated volume = record { start = (kept_span volume).start; count = volume.count }
-
 -- places that may be mended: ascending, in the image, and outside the areas
 pub record AreRuled (volume : Volume) (places : List ℕ) : Type 0 where
   pub ascend : AscendFrom 0 places
   pub inside : All (λ at. at < volume.blocks) places
   pub outside : list_all (is_outside (areas_stated volume)) places ≡ true
-
--- a plan for a volume: lawful, of the volume's block size, in the image, and on no sealed sector
-pub record IsPlanFor (volume : Volume) (plan : Planned) : Type 0 where
-  pub size : plan.size ≡ volume.size
-  pub lawful : IsLawful plan
-  pub inside : are_below volume.blocks plan.blocks ≡ true
-  pub unsealed : are_at (λ n. not (covers (sealed_stated volume) n)) plan.blocks ≡ true

@@ -5,10 +5,10 @@ ghost use Rattle.std.specs.List.{list_all, All};
 ghost use Rattle.udf_model.specs.Image.{block_of};
 ghost use Rattle.udf_outside.specs.Files.{IsAttached};
 ghost use Rattle.udf_outside.specs.Stops.{bytes_of};
-ghost use Rattle.udf_outside.specs.Causes.{Rose};
+ghost use Rattle.udf_outside.specs.Reads.{OnlyReads};
 ghost use Rattle.udf_outside.specs.declared.bench.Role.TheVariants.{Image};
 ghost use Rattle.udf_volume.specs.Areas.{anchor_stated};
-ghost use Rattle.udf_plan.specs.Planned.{are_below};
+ghost use Rattle.udf_blocks.specs.Planned.{are_below};
 ghost use Rattle.udf_plan.specs.Changes.{changes, anchor_after, KeepsTo, AscendFrom, to_mend};
 
 use crate::difference::add_difference;
@@ -57,10 +57,7 @@ fn add_anchor<B: Bench>(
         (anchor_after (block_of volume.now.size (bytes_of Image (B.held bench.old))) (anchor_stated volume.now) kept.now) (place ∷ [])) }
     ensures keeps { OnOk result (KeepsTo (place ∷ []) plan.old.blocks plan.new.blocks) }
     ensures sized { OnOk result (plan.new.size ≡ plan.old.size) }
-    ensures files { B.files bench.new ≡ B.files bench.old }
-    ensures held { B.held bench.new ≡ B.held bench.old }
-    ensures later { B.faults bench.old ≤ B.faults bench.new }
-    ensures fault { IsErrOf result WorkStop.Fault → Rose (B.faults bench.old) (B.faults bench.new) }
+    ensures reads { OnlyReads B.files B.held B.faults bench.old bench.new WorkStop.Fault result }
 {
     read_block(bench, volume.size, place, block)?;
     if is_good(volume, place, block) {
@@ -98,10 +95,7 @@ pub(crate) fn add_anchors<B: Bench>(
         (anchor_after (block_of volume.now.size (bytes_of Image (B.held bench.old))) (anchor_stated volume.now) kept.now) places.now) }
     ensures keeps { OnOk result (KeepsTo places.now plan.old.blocks plan.new.blocks) }
     ensures sized { OnOk result (plan.new.size ≡ plan.old.size) }
-    ensures files { B.files bench.new ≡ B.files bench.old }
-    ensures held { B.held bench.new ≡ B.held bench.old }
-    ensures later { B.faults bench.old ≤ B.faults bench.new }
-    ensures fault { IsErrOf result WorkStop.Fault → Rose (B.faults bench.old) (B.faults bench.new) }
+    ensures reads { OnlyReads B.files B.held B.faults bench.old bench.new WorkStop.Fault result }
 {
     for place in places {
         add_anchor(bench, volume, kept, *place, plan, block, made)?;

@@ -1,7 +1,7 @@
 //! A block of a plan, where it differs from the image's.
 ghost use Rattle.std.specs.Prelude.{◌≡◌, ◌<◌, ◌++◌, ◌∷◌, [], length, OnOk, true};
 ghost use Rattle.std.specs.Str.{bytes_eq};
-ghost use Rattle.udf_plan.specs.Planned.{are_below};
+ghost use Rattle.udf_blocks.specs.Planned.{are_below};
 ghost use Rattle.udf_plan.specs.Changes.{changes};
 
 use crate::{NoMemory, Plan};

@@ -5,14 +5,13 @@
 
 mod anchors;
 mod difference;
-mod plan;
 mod sequence;
 mod terminator;
 #[cfg(test)]
 mod tests;
 mod volume;
 
-pub use plan::Plan;
+pub use udf_blocks::Plan;
 pub use udf_outside::NoMemory;
 pub use udf_volume::WorkStop;
 pub use volume::plan_volume;

@@ -7,12 +7,12 @@ ghost use Rattle.udf_model.specs.Image.{block_of};
 ghost use Rattle.udf_model.specs.Tag.{relocated, is_id, whole_id as whole_in};
 ghost use Rattle.udf_outside.specs.Files.{IsAttached};
 ghost use Rattle.udf_outside.specs.Stops.{bytes_of};
-ghost use Rattle.udf_outside.specs.Causes.{Rose};
+ghost use Rattle.udf_outside.specs.Reads.{OnlyReads};
 ghost use Rattle.udf_outside.specs.declared.bench.Role.TheVariants.{Image};
 ghost use Rattle.udf_volume_model.specs.Mended.{end_block};
 ghost use Rattle.udf_volume.specs.Opened.{IsBounded};
 ghost use Rattle.udf_volume.specs.Spans.{kept_span, other_span};
-ghost use Rattle.udf_plan.specs.Planned.{are_below};
+ghost use Rattle.udf_blocks.specs.Planned.{are_below};
 ghost use Rattle.udf_plan.specs.Changes.{changes, copy_after, block_at, KeepsTo};
 ghost use Rattle.udf_plan.specs.Stated.{kept_list, logical_sector, copied, ended, sequence_changes};
 
@@ -54,10 +54,7 @@ fn add_copy<B: Bench>(
         (λ n. relocated n (block_of volume.now.size (bytes_of Image (B.held bench.old)) from)) (to ∷ [])) }
     ensures keeps { OnOk result (KeepsTo (to ∷ []) plan.old.blocks plan.new.blocks) }
     ensures sized { OnOk result (plan.new.size ≡ plan.old.size) }
-    ensures files { B.files bench.new ≡ B.files bench.old }
-    ensures held { B.held bench.new ≡ B.held bench.old }
-    ensures later { B.faults bench.old ≤ B.faults bench.new }
-    ensures fault { IsErrOf result WorkStop.Fault → Rose (B.faults bench.old) (B.faults bench.new) }
+    ensures reads { OnlyReads B.files B.held B.faults bench.old bench.new WorkStop.Fault result }
 {
     read_block(bench, volume.size, from, made)?;
     relocate(made, to);
@@ -91,10 +88,7 @@ fn add_copies<B: Bench>(
         (copy_after (block_of volume.now.size (bytes_of Image (B.held bench.old))) from to) (range_with_len to volume.now.count)) }
     ensures keeps { OnOk result (KeepsTo (range_with_len to volume.now.count) plan.old.blocks plan.new.blocks) }
     ensures sized { OnOk result (plan.new.size ≡ plan.old.size) }
-    ensures files { B.files bench.new ≡ B.files bench.old }
-    ensures held { B.held bench.new ≡ B.held bench.old }
-    ensures later { B.faults bench.old ≤ B.faults bench.new }
-    ensures fault { IsErrOf result WorkStop.Fault → Rose (B.faults bench.old) (B.faults bench.new) }
+    ensures reads { OnlyReads B.files B.held B.faults bench.old bench.new WorkStop.Fault result }
 {
     for i in 0..volume.count {
         add_copy(bench, volume, from + i, to + i, plan, block, made)?;
@@ -117,10 +111,7 @@ fn read_or_blank<B: Bench>(
     ensures block { B.tells → OnOk result (IfSome sector (λ n. block.new
         ≡ block_of volume.now.size (bytes_of Image (B.held bench.old)) n)) }
     ensures blank { OnOk result (sector ≡ None → block.new ≡ replicate volume.now.size 0) }
-    ensures files { B.files bench.new ≡ B.files bench.old }
-    ensures held { B.held bench.new ≡ B.held bench.old }
-    ensures later { B.faults bench.old ≤ B.faults bench.new }
-    ensures fault { IsErrOf result WorkStop.Fault → Rose (B.faults bench.old) (B.faults bench.new) }
+    ensures reads { OnlyReads B.files B.held B.faults bench.old bench.new WorkStop.Fault result }
 {
     let Some(sector) = sector else {
         block.fill(0);
@@ -162,10 +153,7 @@ fn make_end<B: Bench>(
     ensures made { B.tells → OnOk result (made.new ≡ end_block volume.now.size target
         (block_of volume.now.size (bytes_of Image (B.held bench.old)) source)
         (block_at (block_of volume.now.size (bytes_of Image (B.held bench.old))) logical)) }
-    ensures files { B.files bench.new ≡ B.files bench.old }
-    ensures held { B.held bench.new ≡ B.held bench.old }
-    ensures later { B.faults bench.old ≤ B.faults bench.new }
-    ensures fault { IsErrOf result WorkStop.Fault → Rose (B.faults bench.old) (B.faults bench.new) }
+    ensures reads { OnlyReads B.files B.held B.faults bench.old bench.new WorkStop.Fault result }
 {
     read_block(bench, volume.size, source, made)?;
     if is_terminator(made) {
@@ -205,10 +193,7 @@ fn add_end<B: Bench>(
         (block_at (block_of volume.now.size (bytes_of Image (B.held bench.old))) logical)) (target ∷ [])) }
     ensures keeps { OnOk result (KeepsTo (target ∷ []) plan.old.blocks plan.new.blocks) }
     ensures sized { OnOk result (plan.new.size ≡ plan.old.size) }
-    ensures files { B.files bench.new ≡ B.files bench.old }
-    ensures held { B.held bench.new ≡ B.held bench.old }
-    ensures later { B.faults bench.old ≤ B.faults bench.new }
-    ensures fault { IsErrOf result WorkStop.Fault → Rose (B.faults bench.old) (B.faults bench.new) }
+    ensures reads { OnlyReads B.files B.held B.faults bench.old bench.new WorkStop.Fault result }
 {
     make_end(bench, volume, source, target, logical, block, made)?;
     read_block(bench, volume.size, target, block)?;
@@ -240,10 +225,7 @@ fn read_kept<B: Bench>(
     requires room { length block.old ≡ volume.now.size }
     ensures list { B.tells → IfOk result (λ kept. kept.items ≡ kept_list volume.now (bytes_of Image (B.held bench.old))) }
     ensures inside { IfOk result (λ kept. (kept_span volume.now).start + length kept.items ≤ volume.now.blocks) }
-    ensures files { B.files bench.new ≡ B.files bench.old }
-    ensures held { B.held bench.new ≡ B.held bench.old }
-    ensures later { B.faults bench.old ≤ B.faults bench.new }
-    ensures fault { IsErrOf result WorkStop.Fault → Rose (B.faults bench.old) (B.faults bench.new) }
+    ensures reads { OnlyReads B.files B.held B.faults bench.old bench.new WorkStop.Fault result }
 {
     let extent = volume.kept_extent();
     let list = read_descriptors(
@@ -279,10 +261,7 @@ fn add_copied<B: Bench>(
         ++ (copied volume.now (bytes_of Image (B.held bench.old)) ++ ended volume.now logical (bytes_of Image (B.held bench.old)))) }
     ensures keeps { OnOk result (KeepsTo (range_with_len (other_span volume.now).start (volume.now.count + 1)) plan.old.blocks plan.new.blocks) }
     ensures sized { OnOk result (plan.new.size ≡ plan.old.size) }
-    ensures files { B.files bench.new ≡ B.files bench.old }
-    ensures held { B.held bench.new ≡ B.held bench.old }
-    ensures later { B.faults bench.old ≤ B.faults bench.new }
-    ensures fault { IsErrOf result WorkStop.Fault → Rose (B.faults bench.old) (B.faults bench.new) }
+    ensures reads { OnlyReads B.files B.held B.faults bench.old bench.new WorkStop.Fault result }
 {
     let from = volume.kept_extent().start;
     let to = volume.other_extent().start;
@@ -321,10 +300,7 @@ pub(crate) fn add_sequence<B: Bench>(
         ++ sequence_changes volume.now (bytes_of Image (B.held bench.old))) }
     ensures keeps { OnOk result (KeepsTo (range_with_len (other_span volume.now).start (volume.now.count + 1)) plan.old.blocks plan.new.blocks) }
     ensures sized { OnOk result (plan.new.size ≡ plan.old.size) }
-    ensures files { B.files bench.new ≡ B.files bench.old }
-    ensures held { B.held bench.new ≡ B.held bench.old }
-    ensures later { B.faults bench.old ≤ B.faults bench.new }
-    ensures fault { IsErrOf result WorkStop.Fault → Rose (B.faults bench.old) (B.faults bench.new) }
+    ensures reads { OnlyReads B.files B.held B.faults bench.old bench.new WorkStop.Fault result }
 {
     let kept = read_kept(alloc, bench, volume, block)?;
     let other = read_sequence(alloc, bench, volume, volume.other_extent(), block)?;

@@ -4,15 +4,16 @@ ghost use Rattle.std.specs.List.{All};
 ghost use Rattle.udf_model.specs.Image.{block_of};
 ghost use Rattle.udf_outside.specs.Files.{IsAttached};
 ghost use Rattle.udf_outside.specs.Stops.{bytes_of};
-ghost use Rattle.udf_outside.specs.Causes.{Rose};
+ghost use Rattle.udf_outside.specs.Reads.{OnlyReads};
 ghost use Rattle.udf_outside.specs.declared.bench.Role.TheVariants.{Image};
 ghost use Rattle.udf_volume_model.specs.Areas.{covers};
-ghost use Rattle.udf_volume_model.specs.Accepted.{is_accepted, mended, plan_of};
+ghost use Rattle.udf_volume_model.specs.Opened.{is_opened, volume_mended, plan_of};
 ghost use Rattle.udf_volume.specs.Laid.{IsLaidOut};
 ghost use Rattle.udf_volume.specs.Opened.{opened, IsBounded};
-ghost use Rattle.udf_plan.specs.Planned.{are_at, are_below};
+ghost use Rattle.udf_blocks.specs.Planned.{are_at, are_below};
 ghost use Rattle.udf_plan.specs.Changes.{to_mend};
-ghost use Rattle.udf_plan.specs.Stated.{eligible_stated, bad_stated, all_changes, sealed_stated, AreRuled, IsPlanFor};
+ghost use Rattle.udf_blocks.specs.PlanFor.{sealed_stated, IsPlanFor};
+ghost use Rattle.udf_plan.specs.Stated.{eligible_stated, bad_stated, all_changes, AreRuled};
 
 use crate::anchors::{add_anchors, places_to_mend};
 use crate::sequence::add_sequence;
@@ -55,10 +56,7 @@ fn wanted_places<B: Bench>(
     ensures wanted { B.tells → IfOk result (λ v. v.items
         ≡ to_mend (eligible_stated volume.now) (bad_stated volume.now (bytes_of Image (B.held bench.old)))) }
     ensures ruled { IfOk result (λ v. AreRuled volume.now v.items) }
-    ensures files { B.files bench.new ≡ B.files bench.old }
-    ensures held { B.held bench.new ≡ B.held bench.old }
-    ensures later { B.faults bench.old ≤ B.faults bench.new }
-    ensures fault { IsErrOf result WorkStop.Fault → Rose (B.faults bench.old) (B.faults bench.new) }
+    ensures reads { OnlyReads B.files B.held B.faults bench.old bench.new WorkStop.Fault result }
 {
     let places = eligible_places(alloc, volume)?;
     let bad = bad_places(alloc, bench, volume, &places, block)?;
@@ -90,10 +88,7 @@ fn fill<B: Bench>(
     ensures inside { OnOk result (are_below volume.now.blocks plan.new.blocks ≡ true) }
     ensures unsealed { OnOk result (are_at (λ n. not (covers (sealed_stated volume.now) n)) plan.new.blocks ≡ true) }
     ensures sized { OnOk result (plan.new.size ≡ volume.now.size) }
-    ensures files { B.files bench.new ≡ B.files bench.old }
-    ensures held { B.held bench.new ≡ B.held bench.old }
-    ensures later { B.faults bench.old ≤ B.faults bench.new }
-    ensures fault { IsErrOf result WorkStop.Fault → Rose (B.faults bench.old) (B.faults bench.new) }
+    ensures reads { OnlyReads B.files B.held B.faults bench.old bench.new WorkStop.Fault result }
 {
     let start = volume.other_extent().start;
     let low = places_below(alloc, places, start)?;
@@ -116,14 +111,10 @@ pub fn plan_volume<B: Bench>(
     requires bounded { IsBounded volume.now.size volume.now.blocks volume.now }
     requires laid { IsLaidOut volume.now }
     ensures plan { B.tells → opened volume.now.size (bytes_of Image (B.held bench.old)) ≡ Ok volume.now
-        → is_accepted volume.now.size (bytes_of Image (B.held bench.old)) ≡ true
         → IfOk result (λ plan. plan.blocks ≡ plan_of volume.now.size (bytes_of Image (B.held bench.old))
-        (mended volume.now.size (bytes_of Image (B.held bench.old)))) }
+        (volume_mended volume.now.size (bytes_of Image (B.held bench.old)))) }
     ensures lawful { IfOk result (IsPlanFor volume.now) }
-    ensures files { B.files bench.new ≡ B.files bench.old }
-    ensures held { B.held bench.new ≡ B.held bench.old }
-    ensures later { B.faults bench.old ≤ B.faults bench.new }
-    ensures fault { IsErrOf result WorkStop.Fault → Rose (B.faults bench.old) (B.faults bench.new) }
+    ensures reads { OnlyReads B.files B.held B.faults bench.old bench.new WorkStop.Fault result }
 {
     let mut block = vec![in alloc; 0u8; volume.size as usize]?;
     let mut made = vec![in alloc; 0u8; volume.size as usize]?;

@@ -6,8 +6,8 @@ use Rattle.std.proofs.Math.Nat.{div-mul-le_self}
 use Rattle.udf_volume_model.specs.Areas.{covers}
 use Rattle.udf_volume.specs.Spans.{kept_span}
 use Rattle.udf_volume.specs.declared.volume.Volume.{Volume}
-use Rattle.udf_plan.specs.Planned.{Planned, are_at, are_sized, IsLawful}
-use Rattle.udf_plan.specs.Stated.{sealed_stated, IsPlanFor}
+use Rattle.udf_blocks.specs.Planned.{Planned, are_at, are_sized, IsLawful}
+use Rattle.udf_blocks.specs.PlanFor.{sealed_stated, IsPlanFor}
 use Rattle.udf_redo.specs.Log.{Edit}
 use Rattle.udf_redo.proofs.Lawful.{IsBlock, all_cons, block_inside}
 

@@ -1,6 +1,6 @@
 //! The blocks of a plan are written to the image.
 ghost use Rattle.std.specs.Prelude.{◌≡◌, ◌/◌, true, OnOk};
-ghost use Rattle.udf_plan.specs.Planned.{are_below};
+ghost use Rattle.udf_blocks.specs.Planned.{are_below};
 ghost use Rattle.udf_outside.specs.Files.{IsWritable};
 ghost use Rattle.udf_outside.specs.Stops.{bytes_of, part_of, IsSettled, LeavesOnly};
 ghost use Rattle.udf_outside.specs.declared.bench.Role.TheVariants.{Image, Side};
@@ -10,8 +10,8 @@ ghost use Rattle.udf_redo.specs.Runs.{IsApplying};
 ghost use Rattle.udf_redo.specs.Faults.{HasFault, OnlyFaults};
 
 use crate::RedoStop;
+use udf_blocks::Plan;
 use udf_outside::{Bench, Role};
-use udf_plan::Plan;
 
 /// Writes each block of the plan, in order, and brings them to the medium. The side file holds the plan as an open log of the
 /// image, whose block size in bytes is `size`. It takes no memory.

@@ -10,8 +10,8 @@ ghost use Rattle.udf_redo.specs.Front.{BeginsWith};
 
 use crate::LogHead;
 use crate::head::{FRONT, SECTOR};
+use udf_blocks::Plan;
 use udf_outside::{Bench, Failed, Role};
-use udf_plan::Plan;
 
 /// Writes the head and the records behind the name. A stop leaves the first nine bytes as they are.
 pub fn write_body<B: Bench>(bench: &mut B, head: &LogHead, plan: &Plan) -> Result<(), Failed>

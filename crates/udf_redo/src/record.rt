@@ -2,7 +2,7 @@
 ghost use Rattle.std.specs.Prelude.{◌≡◌, ◌≤◌, ◌<◌, drop, length, slice_get, true, Some, IfOk};
 ghost use Rattle.udf_outside.specs.Files.{IsAttached};
 ghost use Rattle.udf_outside.specs.Stops.{bytes_of};
-ghost use Rattle.udf_outside.specs.Causes.{HasCause};
+ghost use Rattle.udf_outside.specs.Reads.{OnlyReads, failed};
 ghost use Rattle.udf_outside.specs.declared.bench.Role.TheVariants.{Side};
 ghost use Rattle.udf_redo.specs.Log.{is_head, log_length, are_lawful, records_in};
 
@@ -18,9 +18,7 @@ pub fn hold_lawful_records<B: Bench>(bench: &mut B, head: &LogHead) -> Result<bo
     requires within { log_length head.now ≤ (B.files bench.old).side.size }
     ensures lawful { B.tells → IfOk result (λ lawful. lawful
         ≡ are_lawful head.now 0 (records_in head.now.size head.now.records (drop 61 (bytes_of Side (B.held bench.old))))) }
-    ensures files { B.files bench.new ≡ B.files bench.old }
-    ensures held { B.held bench.new ≡ B.held bench.old }
-    ensures cause { HasCause (B.faults bench.old) (B.faults bench.new) result }
+    ensures reads { OnlyReads B.files B.held B.faults bench.old bench.new failed result }
 {
     let mut least = 0;
     let mut number = [0; 4];
@@ -49,9 +47,7 @@ pub fn read_record<B: Bench>(
     requires room { length block.old ≡ head.now.size }
     ensures record { B.tells → IfOk result (λ sector. slice_get (records_in head.now.size head.now.records (drop 61 (bytes_of Side (B.held bench.old)))) k
         ≡ Some (sector, block.new)) }
-    ensures files { B.files bench.new ≡ B.files bench.old }
-    ensures held { B.held bench.new ≡ B.held bench.old }
-    ensures cause { HasCause (B.faults bench.old) (B.faults bench.new) result }
+    ensures reads { OnlyReads B.files B.held B.faults bench.old bench.new failed result }
 {
     let at = head.place(k);
     let mut number = [0; 4];

@@ -3,6 +3,7 @@ ghost use Rattle.std.specs.Prelude.{◌≡◌, ◌≢◌, ◌≤◌, ◌<◌, �
 ghost use Rattle.udf_outside.specs.Files.{IsAttached, IsWritable};
 ghost use Rattle.udf_outside.specs.Stops.{bytes_of, IsSettled, LeavesOnly, Writes};
 ghost use Rattle.udf_outside.specs.Causes.{HasCause};
+ghost use Rattle.udf_outside.specs.Reads.{OnlyReads, failed};
 ghost use Rattle.udf_outside.specs.declared.bench.Role.TheVariants.{Image, Side};
 ghost use Rattle.udf_redo.specs.Log.{head_in, state_of, closed, is_head, log_length};
 ghost use Rattle.udf_redo.specs.Settled.{IsOpenLog, applied_to, clash_in, replay_answer};
@@ -31,9 +32,7 @@ fn clash_of<B: Bench>(
     requires lawful { is_head head.now ≡ true }
     requires room { length block.old ≡ head.now.size }
     ensures clash { B.tells → IfOk result (λ clash. clash ≡ clash_in head.now (bytes_of Image (B.held bench.old))) }
-    ensures files { B.files bench.new ≡ B.files bench.old }
-    ensures held { B.held bench.new ≡ B.held bench.old }
-    ensures cause { HasCause (B.faults bench.old) (B.faults bench.new) result }
+    ensures reads { OnlyReads B.files B.held B.faults bench.old bench.new failed result }
 {
     let blocks = image / head.size as u64;
     if blocks != head.blocks as u64 {

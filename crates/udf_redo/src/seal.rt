@@ -3,7 +3,7 @@ ghost use Rattle.std.specs.Prelude.{◌≡◌, ◌≤◌, ◌<◌, ◌+◌, ◌*
 ghost use Rattle.sha2.specs.Sha256.{sha256};
 ghost use Rattle.udf_outside.specs.Files.{IsAttached};
 ghost use Rattle.udf_outside.specs.Stops.{bytes_of, slice_of};
-ghost use Rattle.udf_outside.specs.Causes.{HasCause};
+ghost use Rattle.udf_outside.specs.Reads.{OnlyReads, failed};
 ghost use Rattle.udf_outside.specs.declared.bench.Role.TheVariants.{Image};
 
 use sha2::{Digest, Sha256};
@@ -22,9 +22,7 @@ pub fn digest_of<B: Bench>(
     requires numbers { first + count < 2 ^ 32 }
     requires room { length block.old ≡ size }
     ensures digest { B.tells → IfOk result (λ digest. digest ≡ sha256 (slice_of (bytes_of Image (B.held bench.old)) (first * size) (count * size))) }
-    ensures files { B.files bench.new ≡ B.files bench.old }
-    ensures held { B.held bench.new ≡ B.held bench.old }
-    ensures cause { HasCause (B.faults bench.old) (B.faults bench.new) result }
+    ensures reads { OnlyReads B.files B.held B.faults bench.old bench.new failed result }
 {
     let mut hasher = Sha256::new();
     for i in 0..count {

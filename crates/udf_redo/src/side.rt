@@ -1,10 +1,11 @@
 //! What a side file is.
 ghost use Rattle.std.specs.Prelude.{◌≡◌, IfOk, IfErr};
 ghost use Rattle.udf_outside.specs.Files.{IsAttached};
+ghost use Rattle.udf_outside.specs.Reads.{OnlyReads};
 ghost use Rattle.udf_outside.specs.Stops.{bytes_of};
 ghost use Rattle.udf_outside.specs.declared.bench.Role.TheVariants.{Side};
 ghost use Rattle.udf_redo.specs.Log.{open_answer, state_of};
-ghost use Rattle.udf_redo.specs.Faults.{HasFault, Answers};
+ghost use Rattle.udf_redo.specs.Faults.{Answers};
 ghost use Rattle.udf_redo.specs.Side.{OpensWithin, IsRefusal};
 
 use crate::head::{FRONT, GATE_OPEN, HEAD, NAME};
@@ -30,9 +31,7 @@ fn open_state<B: Bench>(bench: &mut B, length: u64) -> Result<SideState, RedoSto
     ensures state { B.tells → Answers (open_answer (bytes_of Side (B.held bench.old))) result }
     ensures within { IfOk result (OpensWithin length) }
     ensures refusal { IfErr result IsRefusal }
-    ensures files { B.files bench.new ≡ B.files bench.old }
-    ensures held { B.held bench.new ≡ B.held bench.old }
-    ensures cause { HasFault (B.faults bench.old) (B.faults bench.new) result }
+    ensures reads { OnlyReads B.files B.held B.faults bench.old bench.new RedoStop.Fault result }
 {
     if length < HEAD as u64 {
         return Err(RedoStop::BadLog);
@@ -59,9 +58,7 @@ pub fn side_state<B: Bench>(bench: &mut B, length: u64) -> Result<SideState, Red
     ensures state { B.tells → Answers (state_of (bytes_of Side (B.held bench.old))) result }
     ensures within { IfOk result (OpensWithin length) }
     ensures refusal { IfErr result IsRefusal }
-    ensures files { B.files bench.new ≡ B.files bench.old }
-    ensures held { B.held bench.new ≡ B.held bench.old }
-    ensures cause { HasFault (B.faults bench.old) (B.faults bench.new) result }
+    ensures reads { OnlyReads B.files B.held B.faults bench.old bench.new RedoStop.Fault result }
 {
     if length <= FRONT as u64 {
         return Ok(SideState::Empty);

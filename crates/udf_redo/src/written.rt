@@ -2,9 +2,9 @@
 ghost use Rattle.std.specs.Prelude.{◌≡◌, ◌≤◌, ◌<◌, ◌+◌, ◌*◌, ◌/◌, ◌^◌, true, length, OnOk, IfOk, IsErrOf};
 ghost use Rattle.udf_outside.specs.Files.{IsAttached, IsWritable, resized};
 ghost use Rattle.udf_outside.specs.Stops.{bytes_of, IsSettled, LeavesOnly};
-ghost use Rattle.udf_outside.specs.Causes.{HasCause};
+ghost use Rattle.udf_outside.specs.Reads.{OnlyReads, failed};
 ghost use Rattle.udf_outside.specs.declared.bench.Role.TheVariants.{Image, Side};
-ghost use Rattle.udf_plan.specs.Stated.{IsPlanFor};
+ghost use Rattle.udf_blocks.specs.PlanFor.{IsPlanFor};
 ghost use Rattle.udf_volume.specs.Spans.{kept_span};
 ghost use Rattle.udf_redo.specs.Log.{head_in, records_of, opened, state_of, is_size};
 ghost use Rattle.udf_redo.specs.Settled.{IsOpenLog, IsFree};
@@ -19,8 +19,8 @@ use crate::front::make_front;
 use crate::seal::digest_of;
 use crate::{LogHead, RedoStop};
 use std::alloc::Global;
+use udf_blocks::Plan;
 use udf_outside::{Bench, Failed};
-use udf_plan::Plan;
 use udf_volume::Volume;
 
 /// Writes the plan as a log of the image, behind a closed gate. The log seals the descriptors of the volume's kept sequence.
@@ -74,9 +74,7 @@ fn head_of<B: Bench>(
     ensures head { B.tells → IfOk result (λ head. head ≡ head_for volume.now (bytes_of Image (B.held bench.old)) (length plan.now.blocks)) }
     ensures size { IfOk result (λ head. head.size ≡ volume.now.size) }
     ensures numbers { IfOk result (λ _. (volume.now.blocks < 2 ^ 32) × (length plan.now.blocks < 2 ^ 32)) }
-    ensures files { B.files bench.new ≡ B.files bench.old }
-    ensures held { B.held bench.new ≡ B.held bench.old }
-    ensures cause { HasCause (B.faults bench.old) (B.faults bench.new) result }
+    ensures reads { OnlyReads B.files B.held B.faults bench.old bench.new failed result }
 {
     let (kept, blocks) = (volume.kept_extent(), volume.blocks);
     let seal = digest_of(bench, volume.size, kept.start, volume.count, block)?;

@@ -1,4 +1,4 @@
--- Volumes that a repair may write are those of the accepted images.
+-- Where a volume is opened, and where one that may be written.
 use Rattle.std.proofs.Common.{◌≡◌, ℕ, arith, refl, sym, ◌∙◌, ap, List, ltb, Bool, true, false, cond, not, ◌&&◌, Option, Some, None, Ok, Err, is_ok}
 use Rattle.std.specs.Prelude.{is_none}
 use Rattle.udf_model.specs.Image.{block_of, blocks_in}
@@ -9,7 +9,7 @@ use Rattle.udf_volume_model.specs.Sequence.{Descriptor}
 use Rattle.udf_volume_model.specs.Stated.{is_built, logical, partition}
 use Rattle.udf_volume_model.specs.Profile.{has_block_size, has_domain, has_revision, has_pointer, has_no_tables, is_profile, is_protected as is_protected_list, is_guarded_list}
 use Rattle.udf_volume_model.specs.Layout.{is_lawful}
-use Rattle.udf_volume_model.specs.Accepted.{is_accepted, is_accepted_by}
+use Rattle.udf_volume_model.specs.Opened.{is_opened, is_opened_by, is_protected_by, is_protected_image}
 use Rattle.udf_volume.specs.declared.missing.Missing.{Missing}
 use Rattle.udf_volume.specs.declared.missing.Missing.TheVariants as missing
 use Rattle.udf_volume.specs.declared.missing.ProfileItem.{ProfileItem}
@@ -50,35 +50,60 @@ protected_is : (size blocks : ℕ) (v : model.Volume) → is_protected (volume_b
 unfolding is_protected volume_by is_protected_list is_guarded is_guarded_list
 protected_is size blocks v = refl
 
-by_parts : (item : Option ProfileItem) (lawful guarded : Bool) (volume : Volume) → is_protected volume ≡ guarded
-    → (is_none item && (lawful && not guarded)) ≡ is_ok (by_protection (by_refusal (by_profile item lawful) volume))
-by_parts (Some item) lawful guarded volume e = refl
-by_parts None false guarded volume e = refl
-by_parts None true true volume e = sym (ap (λ b. is_ok (cond b (Err missing.WriteProtected) (Ok volume))) e)
-by_parts None true false volume e = sym (ap (λ b. is_ok (cond b (Err missing.WriteProtected) (Ok volume))) e)
+-- with write protection, or without
+by_parts : (item : Option ProfileItem) (lawful : Bool) (volume : Volume)
+    → (is_none item && lawful) ≡ is_ok (by_refusal (by_profile item lawful) volume)
+by_parts (Some item) lawful volume = refl
+by_parts None false volume = refl
+by_parts None true volume = refl
 
-kept_is : (size blocks : ℕ) (disk : ℕ → List ℕ) (any : Bool) (found : Option model.Volume)
-    → is_accepted_by size blocks disk found ≡ is_ok (by_protection (by_volume size blocks disk any found))
-unfolding accepted refusal_of
-kept_is size blocks disk true None = refl
-kept_is size blocks disk false None = refl
-kept_is size blocks disk any (Some v) =
-    ap (λ b. b && (is_lawful size blocks disk v && not (is_protected_list v.list))) (profile_is size v.list)
-    ∙ by_parts (unlike_profile size v.list) (is_lawful size blocks disk v) (is_protected_list v.list) (volume_by size blocks v (logical v.list) (partition v.list))
-    (protected_is size blocks v)
+by_guard : (item : Option ProfileItem) (lawful guarded : Bool) (volume : Volume) → is_protected volume ≡ guarded
+    → ((is_none item && lawful) && not guarded) ≡ is_ok (by_protection (by_refusal (by_profile item lawful) volume))
+by_guard (Some item) lawful guarded volume e = refl
+by_guard None false guarded volume e = refl
+by_guard None true true volume e = sym (ap (λ b. is_ok (cond b (Err missing.WriteProtected) (Ok volume))) e)
+by_guard None true false volume e = sym (ap (λ b. is_ok (cond b (Err missing.WriteProtected) (Ok volume))) e)
+
+module _ (size blocks : ℕ) (disk : ℕ → List ℕ) (any : Bool) where
+  kept_is : (found : Option model.Volume) → is_opened_by size blocks disk found ≡ is_ok (by_volume size blocks disk any found)
+  unfolding accepted refusal_of
+  kept_is None = elim any as (λ b. false ≡ is_ok (by_volume size blocks disk b None)) [ true ↦ refl | false ↦ refl ]
+  kept_is (Some v) =
+      ap (λ b. b && is_lawful size blocks disk v) (profile_is size v.list)
+      ∙ by_parts (unlike_profile size v.list) (is_lawful size blocks disk v) (volume_by size blocks v (logical v.list) (partition v.list))
+
+  guarded_is : (found : Option model.Volume)
+      → (is_opened_by size blocks disk found && not (is_protected_by found)) ≡ is_ok (by_protection (by_volume size blocks disk any found))
+  unfolding accepted refusal_of
+  guarded_is None = elim any as (λ b. false ≡ is_ok (by_protection (by_volume size blocks disk b None))) [ true ↦ refl | false ↦ refl ]
+  guarded_is (Some v) =
+      ap (λ b. (b && is_lawful size blocks disk v) && not (is_protected_list v.list)) (profile_is size v.list)
+      ∙ by_guard (unlike_profile size v.list) (is_lawful size blocks disk v) (is_protected_list v.list) (volume_by size blocks v (logical v.list) (partition v.list))
+      (protected_is size blocks v)
 
 fewer : (n : ℕ) → ltb n 4294967296 ≡ not (ltb 4294967295 n)
 fewer n = grind arith
 
-pub accepted_is : (size : ℕ) (image : List ℕ) → is_accepted size image ≡ is_ok (opened_writable size image)
-unfolding is_accepted opened_writable opened
-accepted_is size image =
-    ap (λ b. b && is_accepted_by size (blocks_in size image) (block_of size image) (volume_of size image)) (fewer (blocks_in size image))
-    ∙ by_count (ltb 4294967295 (blocks_in size image)) where
-      any : Bool
-      any = has_anchor size (blocks_in size image) (block_of size image) (places (blocks_in size image))
+module _ (size : ℕ) (image : List ℕ) where
+  any : Bool
+  any = has_anchor size (blocks_in size image) (block_of size image) (places (blocks_in size image))
 
-      by_count : (b : Bool) → (not b && is_accepted_by size (blocks_in size image) (block_of size image) (volume_of size image))
-          ≡ is_ok (by_protection (cond b (Err missing.TooLarge) (by_volume size (blocks_in size image) (block_of size image) any (volume_of size image))))
-      by_count true = refl
-      by_count false = kept_is size (blocks_in size image) (block_of size image) any (volume_of size image)
+  pub opened_is : is_opened size image ≡ is_ok (opened size image)
+  unfolding is_opened opened any
+  opened_is =
+      ap (λ b. b && is_opened_by size (blocks_in size image) (block_of size image) (volume_of size image)) (fewer (blocks_in size image))
+      ∙ by_count (ltb 4294967295 (blocks_in size image)) where
+        by_count : (b : Bool) → (not b && is_opened_by size (blocks_in size image) (block_of size image) (volume_of size image))
+            ≡ is_ok (cond b (Err missing.TooLarge) (by_volume size (blocks_in size image) (block_of size image) any (volume_of size image)))
+        by_count true = refl
+        by_count false = kept_is size (blocks_in size image) (block_of size image) any (volume_of size image)
+
+  pub writable_is : (is_opened size image && not (is_protected_image size image)) ≡ is_ok (opened_writable size image)
+  unfolding is_opened is_protected_image opened_writable opened any
+  writable_is =
+      ap (λ b. (b && is_opened_by size (blocks_in size image) (block_of size image) (volume_of size image)) && not (is_protected_by (volume_of size image))) (fewer (blocks_in size image))
+      ∙ by_count (ltb 4294967295 (blocks_in size image)) where
+        by_count : (b : Bool) → ((not b && is_opened_by size (blocks_in size image) (block_of size image) (volume_of size image)) && not (is_protected_by (volume_of size image)))
+            ≡ is_ok (by_protection (cond b (Err missing.TooLarge) (by_volume size (blocks_in size image) (block_of size image) any (volume_of size image))))
+        by_count true = refl
+        by_count false = guarded_is size (blocks_in size image) (block_of size image) any (volume_of size image)

@@ -8,3 +8,4 @@ pub mod Areas
 pub mod Spans
 pub mod Laid
 pub mod Writable
+pub mod Refusals

@@ -1,10 +1,10 @@
 //! The kept anchor and the kept sequence: the first place with a whole anchor that leads to a whole sequence.
-ghost use Rattle.std.specs.Prelude.{◌≡◌, ◌+◌, ◌*◌, ◌≤◌, ◌<◌, ◌^◌, ℕ, length, IfOk, IfSome, IsErrOf, option_map, true};
+ghost use Rattle.std.specs.Prelude.{◌≡◌, ◌+◌, ◌*◌, ◌≤◌, ◌<◌, ◌^◌, ℕ, length, IfOk, IfSome, option_map, true};
 ghost use Rattle.std.specs.List.{AllByRecursion};
 ghost use Rattle.udf_model.specs.Image.{block_of};
 ghost use Rattle.udf_outside.specs.Files.{IsAttached};
 ghost use Rattle.udf_outside.specs.Stops.{bytes_of};
-ghost use Rattle.udf_outside.specs.Causes.{Rose};
+ghost use Rattle.udf_outside.specs.Reads.{OnlyReads};
 ghost use Rattle.udf_outside.specs.declared.bench.Role.TheVariants.{Image};
 ghost use Rattle.udf_volume_model.specs.Anchor.{is_extent, names_extents};
 ghost use Rattle.udf_volume_model.specs.Kept.{has_id, is_complete, whole_by, sequence_at, volume_at, volume_in, has_anchor};
@@ -100,10 +100,7 @@ fn whole_sequence<B: Bench>(
     ensures sequence { B.tells → IfOk result (λ found. option_map (λ v. v.items) found
         ≡ sequence_at size (block_of size (bytes_of Image (B.held bench.old))) limit (extent_seen span)) }
     ensures complete { IfOk result (λ found. IfSome found (λ v. is_complete limit v.items ≡ true)) }
-    ensures files { B.files bench.new ≡ B.files bench.old }
-    ensures held { B.held bench.new ≡ B.held bench.old }
-    ensures later { B.faults bench.old ≤ B.faults bench.new }
-    ensures fault { IsErrOf result WorkStop.Fault → Rose (B.faults bench.old) (B.faults bench.new) }
+    ensures reads { OnlyReads B.files B.held B.faults bench.old bench.new WorkStop.Fault result }
 {
     let count = blocks_of(size, span.length);
     let list = read_descriptors(alloc, bench, size, span.start, count, block)?;
@@ -130,10 +127,7 @@ fn led_by<B: Bench>(
     ensures led { B.tells → IfOk result (λ led. option_map led_seen led
         ≡ volume_at size (block_of size (bytes_of Image (B.held bench.old))) place (Some (anchor_seen anchor))) }
     ensures lawful { IfOk result (λ led. IfSome led (IsLed size blocks)) }
-    ensures files { B.files bench.new ≡ B.files bench.old }
-    ensures held { B.held bench.new ≡ B.held bench.old }
-    ensures later { B.faults bench.old ≤ B.faults bench.new }
-    ensures fault { IsErrOf result WorkStop.Fault → Rose (B.faults bench.old) (B.faults bench.new) }
+    ensures reads { OnlyReads B.files B.held B.faults bench.old bench.new WorkStop.Fault result }
 {
     let limit = blocks_of(size, anchor.main.length).min(blocks_of(size, anchor.reserve.length));
     if let Some(descriptors) = whole_sequence(
@@ -190,10 +184,7 @@ pub(crate) fn search<B: Bench>(
         (volume_in size blocks (block_of size (bytes_of Image (B.held bench.old))) places.now)
         (has_anchor size blocks (block_of size (bytes_of Image (B.held bench.old))) places.now)) }
     ensures lawful { IfOk result (FindsLawful size blocks) }
-    ensures files { B.files bench.new ≡ B.files bench.old }
-    ensures held { B.held bench.new ≡ B.held bench.old }
-    ensures later { B.faults bench.old ≤ B.faults bench.new }
-    ensures fault { IsErrOf result WorkStop.Fault → Rose (B.faults bench.old) (B.faults bench.new) }
+    ensures reads { OnlyReads B.files B.held B.faults bench.old bench.new WorkStop.Fault result }
 {
     let Some((first, rest)) = places.split_first() else {
         return Ok(Found::Nothing);

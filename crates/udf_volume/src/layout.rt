@@ -4,7 +4,7 @@ ghost use Rattle.std.specs.List.{AllByRecursion, list_all};
 ghost use Rattle.udf_model.specs.Image.{block_of};
 ghost use Rattle.udf_outside.specs.Files.{IsAttached};
 ghost use Rattle.udf_outside.specs.Stops.{bytes_of};
-ghost use Rattle.udf_outside.specs.Causes.{HasCause, Rose};
+ghost use Rattle.udf_outside.specs.Reads.{OnlyReads, failed};
 ghost use Rattle.udf_outside.specs.declared.bench.Role.TheVariants.{Image};
 ghost use Rattle.udf_volume_model.specs.Layout.{is_apart as apart, are_apart as all_apart, is_inside as inside, is_bitmap as bitmap_holds, earlier, is_passed};
 ghost use Rattle.udf_volume.specs.Areas.{area_seen};
@@ -119,9 +119,7 @@ fn are_passed<B: Bench>(
     ensures passed { B.tells → IfOk result (λ passed. passed ≡ list_all
         (is_passed volume.now.size volume.now.blocks (block_of volume.now.size (bytes_of Image (B.held bench.old))) (map area_seen areas.now))
         (earlier volume.now.anchor places.now)) }
-    ensures files { B.files bench.new ≡ B.files bench.old }
-    ensures held { B.held bench.new ≡ B.held bench.old }
-    ensures cause { HasCause (B.faults bench.old) (B.faults bench.new) result }
+    ensures reads { OnlyReads B.files B.held B.faults bench.old bench.new failed result }
 {
     let Some((first, rest)) = places.split_first() else {
         return Ok(true);
@@ -156,10 +154,7 @@ pub(crate) fn is_lawful<B: Bench>(
     requires large { 512 ≤ volume.now.size }
     ensures lawful { B.tells → IfOk result (λ lawful. lawful ≡ laid volume.now (block_of volume.now.size (bytes_of Image (B.held bench.old)))) }
     ensures areas { IfOk result (λ lawful. lawful ≡ true → IsLaidOut volume.now) }
-    ensures files { B.files bench.new ≡ B.files bench.old }
-    ensures held { B.held bench.new ≡ B.held bench.old }
-    ensures later { B.faults bench.old ≤ B.faults bench.new }
-    ensures fault { IsErrOf result WorkStop.Fault → Rose (B.faults bench.old) (B.faults bench.new) }
+    ensures reads { OnlyReads B.files B.held B.faults bench.old bench.new WorkStop.Fault result }
 {
     let areas = areas_of(alloc, volume)?;
     let places = places_of(alloc, volume.blocks)?;

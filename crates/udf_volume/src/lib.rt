@@ -1,6 +1,6 @@
 //! The volume of an image: its anchors, the kept descriptor sequence, and what the prevailing descriptors state.
 //! Towards the layer above: `open_volume` answers the first refusal that applies, or a `Volume` whose every field is what
-//! the descriptors state; `open_writable` refuses a protected volume too, for a repair; `read_descriptors` gives the list of
+//! the descriptors state; `open_writable` refuses a protected volume too; `read_descriptors` gives the list of
 //! an extent. It stands on fields and tags, on the bench, and on the definitions of volumes.
 #![tactic(auto)]
 
@@ -27,4 +27,4 @@ pub use open::open_volume;
 pub use rules::{bad_places, is_good, sequences_agree};
 pub use sequence::{DescriptorList, read_descriptors, read_sequence};
 pub use volume::{MetaMap, Shape, SparingMap, Upper, Volume, Which};
-pub use writable::{open_writable, writable_law};
+pub use writable::{open_writable, opened_law};

@@ -1,14 +1,15 @@
 //! A volume from an image: the first refusal that applies, or what the prevailing descriptors state.
-ghost use Rattle.std.specs.Prelude.{◌≡◌, ◌+◌, ◌*◌, ◌/◌, ◌≤◌, ◌<◌, ◌^◌, ℕ, length as length_of, IfOk, IfSome, IsErrOf, if◌then◌else◌, Some, None, slice_index, take, drop};
+ghost use Rattle.std.specs.Prelude.{◌≡◌, ◌+◌, ◌*◌, ◌/◌, ◌≤◌, ◌<◌, ◌^◌, ℕ, length as length_of, IfOk, IfErr, IfSome, if◌then◌else◌, Some, None, slice_index, take, drop};
 ghost use Rattle.udf_model.specs.Image.{block_of};
 ghost use Rattle.udf_outside.specs.Files.{IsAttached};
 ghost use Rattle.udf_outside.specs.Stops.{bytes_of};
-ghost use Rattle.udf_outside.specs.Causes.{Rose};
+ghost use Rattle.udf_outside.specs.Reads.{OnlyReads};
 ghost use Rattle.udf_outside.specs.declared.bench.Role.TheVariants.{Image};
 ghost use Rattle.udf_volume_model.specs.Kept.{kept};
 ghost use Rattle.udf_volume_model.specs.Stated.{is_built};
 ghost use Rattle.udf_volume.specs.Laid.{IsLaidOut};
 ghost use Rattle.udf_volume.specs.Led.{IsLed, led_seen};
+ghost use Rattle.udf_volume.specs.Refusals.{RefusesVolume};
 ghost use Rattle.udf_volume.specs.Opened.{volume_by, stated_in, sector_in, bitmap_in, is_guarded, accepted, opened, Answers, IsBounded};
 
 use crate::anchor::places_of;
@@ -167,12 +168,10 @@ fn accept<B: Bench>(
     requires led { IsLed size blocks led.now }
     ensures answers { B.tells → Answers
         (accepted size blocks (block_of size (bytes_of Image (B.held bench.old))) (led_seen led.now)) result }
+    ensures refusal { IfErr result RefusesVolume }
     ensures bounds { IfOk result (IsBounded size blocks) }
     ensures areas { IfOk result IsLaidOut }
-    ensures files { B.files bench.new ≡ B.files bench.old }
-    ensures held { B.held bench.new ≡ B.held bench.old }
-    ensures later { B.faults bench.old ≤ B.faults bench.new }
-    ensures fault { IsErrOf result LayerStop.Fault → Rose (B.faults bench.old) (B.faults bench.new) }
+    ensures reads { OnlyReads B.files B.held B.faults bench.old bench.new LayerStop.Fault result }
 {
     if let Some(item) = unlike_profile(&led.descriptors, size) {
         return Err(LayerStop::Missing(Missing::Profile(item)));
@@ -199,12 +198,10 @@ pub fn open_volume<B: Bench>(
     requires large { 512 ≤ size }
     requires sized { length ≡ (B.files bench.old).image.size }
     ensures answers { B.tells → Answers (opened size (bytes_of Image (B.held bench.old))) result }
+    ensures refusal { IfErr result RefusesVolume }
     ensures bounds { IfOk result (IsBounded size (length / size)) }
     ensures areas { IfOk result IsLaidOut }
-    ensures files { B.files bench.new ≡ B.files bench.old }
-    ensures held { B.held bench.new ≡ B.held bench.old }
-    ensures later { B.faults bench.old ≤ B.faults bench.new }
-    ensures fault { IsErrOf result LayerStop.Fault → Rose (B.faults bench.old) (B.faults bench.new) }
+    ensures reads { OnlyReads B.files B.held B.faults bench.old bench.new LayerStop.Fault result }
 {
     let whole = length / size as u64;
     if whole > MOST_BLOCKS {

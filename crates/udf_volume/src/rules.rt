@@ -8,7 +8,7 @@ ghost use Rattle.std.specs.Option.{option_copied};
 ghost use Rattle.udf_model.specs.Image.{block_of};
 ghost use Rattle.udf_outside.specs.Files.{IsAttached};
 ghost use Rattle.udf_outside.specs.Stops.{bytes_of};
-ghost use Rattle.udf_outside.specs.Causes.{Rose};
+ghost use Rattle.udf_outside.specs.Reads.{OnlyReads};
 ghost use Rattle.udf_outside.specs.declared.bench.Role.TheVariants.{Image};
 ghost use Rattle.udf_volume_model.specs.Kept.{whole_by};
 ghost use Rattle.udf_volume_model.specs.Rules.{is_good as is_good_at, agrees, same_prevailing, same_descriptor as same_in, same_for};
@@ -53,10 +53,7 @@ pub fn bad_places<B: Bench>(
         (λ place. not (is_good_at (anchor_stated volume.now) place
         (block_of volume.now.size (bytes_of Image (B.held bench.old)) place))) places.now) }
     ensures few { IfOk result (λ v. length v.items ≤ length places.now) }
-    ensures files { B.files bench.new ≡ B.files bench.old }
-    ensures held { B.held bench.new ≡ B.held bench.old }
-    ensures later { B.faults bench.old ≤ B.faults bench.new }
-    ensures fault { IsErrOf result WorkStop.Fault → Rose (B.faults bench.old) (B.faults bench.new) }
+    ensures reads { OnlyReads B.files B.held B.faults bench.old bench.new WorkStop.Fault result }
 {
     let mut bad = Vec::new(alloc);
     for place in places {

@@ -3,7 +3,7 @@ ghost use Rattle.std.specs.Prelude.{◌≡◌, ◌+◌, ◌*◌, ◌≤◌, ◌<
 ghost use Rattle.udf_model.specs.Image.{block_of, is_zeros};
 ghost use Rattle.udf_outside.specs.Files.{IsAttached};
 ghost use Rattle.udf_outside.specs.Stops.{bytes_of};
-ghost use Rattle.udf_outside.specs.Causes.{Rose};
+ghost use Rattle.udf_outside.specs.Reads.{OnlyReads};
 ghost use Rattle.udf_outside.specs.declared.bench.Role.TheVariants.{Image};
 ghost use Rattle.udf_volume_model.specs.Sequence.{is_listed, other_view, view_of, views, front_of, is_spoilt};
 ghost use Rattle.udf_volume_model.specs.Anchor.{is_extent};
@@ -99,10 +99,7 @@ pub fn read_descriptors<B: Bench>(
     ensures spoilt { B.tells → IfOk result (λ list. list.is_spoilt
         ≡ is_spoilt (views (block_of size (bytes_of Image (B.held bench.old))) start count)) }
     ensures short { IfOk result (λ list. length list.descriptors.items ≤ count) }
-    ensures files { B.files bench.new ≡ B.files bench.old }
-    ensures held { B.held bench.new ≡ B.held bench.old }
-    ensures later { B.faults bench.old ≤ B.faults bench.new }
-    ensures fault { IsErrOf result WorkStop.Fault → Rose (B.faults bench.old) (B.faults bench.new) }
+    ensures reads { OnlyReads B.files B.held B.faults bench.old bench.new WorkStop.Fault result }
 {
     let mut descriptors = Vec::new(alloc);
     for i in 0..count {
@@ -144,10 +141,7 @@ pub fn read_sequence<B: Bench>(
         ≡ front_of (said_in volume.now.size (bytes_of Image (B.held bench.old)) extent)) }
     ensures spoilt { B.tells → IfOk result (λ list. list.is_spoilt
         ≡ is_spoilt (said_in volume.now.size (bytes_of Image (B.held bench.old)) extent)) }
-    ensures files { B.files bench.new ≡ B.files bench.old }
-    ensures held { B.held bench.new ≡ B.held bench.old }
-    ensures later { B.faults bench.old ≤ B.faults bench.new }
-    ensures fault { IsErrOf result WorkStop.Fault → Rose (B.faults bench.old) (B.faults bench.new) }
+    ensures reads { OnlyReads B.files B.held B.faults bench.old bench.new WorkStop.Fault result }
 {
     let count = volume.blocks_of(extent);
     let list = read_descriptors(alloc, bench, volume.size, extent.start, count, block)?;

@@ -1,12 +1,12 @@
 //! A volume that a repair may write.
-ghost use Rattle.std.specs.Prelude.{◌≡◌, ◌≤◌, ◌/◌, ℕ, List, IfOk, IsErrOf, is_ok};
+ghost use Rattle.std.specs.Prelude.{◌≡◌, ◌≤◌, ◌/◌, ℕ, List, IfOk, is_ok, not, ◌&&◌};
 ghost use Rattle.udf_outside.specs.Files.{IsAttached};
 ghost use Rattle.udf_outside.specs.Stops.{bytes_of};
-ghost use Rattle.udf_outside.specs.Causes.{Rose};
+ghost use Rattle.udf_outside.specs.Reads.{OnlyReads};
 ghost use Rattle.udf_outside.specs.declared.bench.Role.TheVariants.{Image};
-ghost use Rattle.udf_volume_model.specs.Accepted.{is_accepted};
+ghost use Rattle.udf_volume_model.specs.Opened.{is_opened, is_protected_image};
 ghost use Rattle.udf_volume.specs.Laid.{IsLaidOut};
-ghost use Rattle.udf_volume.specs.Opened.{Answers, IsBounded};
+ghost use Rattle.udf_volume.specs.Opened.{Answers, IsBounded, opened};
 ghost use Rattle.udf_volume.specs.Writable.{opened_writable, is_protected as is_protected_stated};
 
 use crate::{LayerStop, Missing, Volume, open_volume};
@@ -49,10 +49,7 @@ pub fn open_writable<B: Bench>(
     ensures answers { B.tells → Answers (opened_writable size (bytes_of Image (B.held bench.old))) result }
     ensures bounds { IfOk result (IsBounded size (length / size)) }
     ensures areas { IfOk result IsLaidOut }
-    ensures files { B.files bench.new ≡ B.files bench.old }
-    ensures held { B.held bench.new ≡ B.held bench.old }
-    ensures later { B.faults bench.old ≤ B.faults bench.new }
-    ensures fault { IsErrOf result LayerStop.Fault → Rose (B.faults bench.old) (B.faults bench.new) }
+    ensures reads { OnlyReads B.files B.held B.faults bench.old bench.new LayerStop.Fault result }
 {
     match open_volume(alloc, bench, size, length) {
         Ok(volume) => {
@@ -66,7 +63,9 @@ pub fn open_writable<B: Bench>(
     }
 }
 
-/// An image is accepted for a repair exactly where a volume that may be written is opened.
-pub fn writable_law()
-    ensures { (size : ℕ) (image : List ℕ) → is_accepted size image ≡ is_ok (opened_writable size image) }
+/// A volume is opened exactly where no refusal of its description applies; and one that may be written exactly where besides
+/// its descriptors do not protect it.
+pub fn opened_law()
+    ensures opened { (size : ℕ) (image : List ℕ) → is_opened size image ≡ is_ok (opened size image) }
+    ensures writable { (size : ℕ) (image : List ℕ) → (is_opened size image && not (is_protected_image size image)) ≡ is_ok (opened_writable size image) }
 {}

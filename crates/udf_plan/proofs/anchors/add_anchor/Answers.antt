@@ -5,7 +5,7 @@ use Rattle.udf_outside.specs.Stops.{bytes_of}
 use Rattle.udf_outside.specs.declared.bench.Role.TheVariants.{Image}
 use Rattle.udf_volume_model.specs.Rules.{is_good}
 use Rattle.udf_volume.specs.Areas.{anchor_stated}
-use Rattle.udf_plan.specs.Planned.{Planned}
+use Rattle.udf_blocks.specs.Planned.{Planned}
 use Rattle.udf_plan.specs.Changes.{anchor_after, KeepsTo}
 use Rattle.udf_plan.proofs.Changing.{stays, compared, good_after, bad_after, keeps_one}
 use Rattle.udf_plan.proofs.anchors.add_anchor.Goals as goal

@@ -11,7 +11,7 @@ pub loop-place-init : goal.loop-place-init
 loop-place-init g c = record {
   files = refl;
   held = refl;
-  later = omega arith;
+  calm = refl;
   sized = refl;
   keeps = λ test e t. e;
   added = λ tells. none_yet _ _ c.args.plan.now.blocks;
@@ -26,9 +26,9 @@ pub loop-place-preserved : goal.loop-place-preserved
 loop-place-preserved g c =
     let lt : c.loop-place.place-index < length c.args.places.now = search rules in
     record {
-      files = c.in_ok-add_anchor.ensures.files ∙ c.loop-place.invariant.files;
-      held = c.in_ok-add_anchor.ensures.held ∙ c.loop-place.invariant.held;
-      later = omega (arith, c.in_ok-add_anchor.ensures.later, c.loop-place.invariant.later);
+      files = c.in_ok-add_anchor.ensures.reads.files ∙ c.loop-place.invariant.files;
+      held = c.in_ok-add_anchor.ensures.reads.held ∙ c.loop-place.invariant.held;
+      calm = c.in_ok-add_anchor.ensures.reads.calm ∙ c.loop-place.invariant.calm;
       sized = c.in_ok-add_anchor.ensures.sized ∙ c.loop-place.invariant.sized;
       keeps = next_keeps c.args.places.now c.loop-place.place-index c.args.plan.now.blocks c.loop-place.plan.blocks c.add_anchor.new.plan.blocks lt
           c.loop-place.invariant.keeps c.in_ok-add_anchor.ensures.keeps;

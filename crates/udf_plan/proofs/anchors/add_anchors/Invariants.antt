@@ -10,7 +10,7 @@ abbrev pub invariant-loop-place : goal.invariant-loop-place
 invariant-loop-place g l = record {
   files : g.B.Bench.files l.bench ≡ g.B.Bench.files l.initial.bench;
   held : g.B.Bench.held l.bench ≡ g.B.Bench.held l.initial.bench;
-  later : g.B.Bench.faults l.initial.bench ≤ g.B.Bench.faults l.bench;
+  calm : g.B.Bench.faults l.bench ≡ g.B.Bench.faults l.initial.bench;
   sized : l.plan.size ≡ l.initial.plan.size;
   keeps : KeepsTo (take l.place-index l.places) l.initial.plan.blocks l.plan.blocks;
   added : g.B.Bench.tells → l.plan.blocks ≡ l.initial.plan.blocks

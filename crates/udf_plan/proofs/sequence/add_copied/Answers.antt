@@ -2,7 +2,7 @@ use Rattle.std.proofs.Common.{◌≡◌, ◌+◌, ℕ, arith, subst, ap, ◌∙�
 use Rattle.std.specs.List.{range_with_len}
 use Rattle.udf_field.specs.declared.address.Span.{Span}
 use Rattle.udf_volume.specs.Spans.{opposite, other_span}
-use Rattle.udf_plan.specs.Planned.{are_below}
+use Rattle.udf_blocks.specs.Planned.{are_below}
 use Rattle.udf_plan.specs.Changes.{KeepsTo}
 use Rattle.udf_plan.proofs.Rooms.{last_inside}
 use Rattle.udf_plan.proofs.Changing.{run_above, run_keeps}

@@ -11,7 +11,7 @@ pub loop-i-init : goal.loop-i-init
 loop-i-init g c = record {
   files = refl;
   held = refl;
-  later = omega arith;
+  calm = refl;
   sized = refl;
   keeps = λ test e t. e;
   added = λ tells. none_yet _ _ c.args.plan.now.blocks;
@@ -23,9 +23,9 @@ add_copy-requires-clause-above g c =
 
 pub loop-i-preserved : goal.loop-i-preserved
 loop-i-preserved g c = record {
-  files = c.in_ok-add_copy.ensures.files ∙ c.loop-i.invariant.files;
-  held = c.in_ok-add_copy.ensures.held ∙ c.loop-i.invariant.held;
-  later = omega (arith, c.in_ok-add_copy.ensures.later, c.loop-i.invariant.later);
+  files = c.in_ok-add_copy.ensures.reads.files ∙ c.loop-i.invariant.files;
+  held = c.in_ok-add_copy.ensures.reads.held ∙ c.loop-i.invariant.held;
+  calm = c.in_ok-add_copy.ensures.reads.calm ∙ c.loop-i.invariant.calm;
   sized = c.in_ok-add_copy.ensures.sized ∙ c.loop-i.invariant.sized;
   keeps = run_keeps c.args.to c.loop-i.i c.args.plan.now.blocks c.loop-i.plan.blocks c.add_copy.new.plan.blocks c.loop-i.invariant.keeps c.in_ok-add_copy.ensures.keeps;
   added = λ tells.

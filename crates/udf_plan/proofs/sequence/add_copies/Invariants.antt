@@ -10,7 +10,7 @@ abbrev pub invariant-loop-i : goal.invariant-loop-i
 invariant-loop-i g l = record {
   files : g.B.Bench.files l.bench ≡ g.B.Bench.files l.initial.bench;
   held : g.B.Bench.held l.bench ≡ g.B.Bench.held l.initial.bench;
-  later : g.B.Bench.faults l.initial.bench ≤ g.B.Bench.faults l.bench;
+  calm : g.B.Bench.faults l.bench ≡ g.B.Bench.faults l.initial.bench;
   sized : l.plan.size ≡ l.initial.plan.size;
   keeps : KeepsTo (range_with_len l.to l.i) l.initial.plan.blocks l.plan.blocks;
   added : g.B.Bench.tells → l.plan.blocks ≡ l.initial.plan.blocks

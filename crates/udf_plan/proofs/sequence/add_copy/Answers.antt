@@ -3,7 +3,7 @@ use Rattle.udf_model.specs.Image.{block_of}
 use Rattle.udf_model.specs.Tag.{relocated}
 use Rattle.udf_outside.specs.Stops.{bytes_of}
 use Rattle.udf_outside.specs.declared.bench.Role.TheVariants.{Image}
-use Rattle.udf_plan.specs.Planned.{Planned}
+use Rattle.udf_blocks.specs.Planned.{Planned}
 use Rattle.udf_plan.specs.Changes.{KeepsTo}
 use Rattle.udf_plan.proofs.Changing.{compared, keeps_one}
 use Rattle.udf_plan.proofs.sequence.add_copy.Goals as goal
@@ -15,7 +15,7 @@ returns-clause-added g c = λ tells.
     let source : c.read_block.new.into ≡ disk c.args.from = c.in_ok-read_block.ensures.block tells in
     let made : c.relocate.new.area ≡ relocated c.args.to (disk c.args.from) = c.relocate.ensures.value ∙ ap (relocated c.args.to) source in
     let now : c.read_block-2.new.into ≡ disk c.args.to =
-    c.in_ok-read_block-2.ensures.block tells ∙ ap (λ h. block_of size (bytes_of Image h) c.args.to) c.in_ok-read_block.ensures.held in
+    c.in_ok-read_block-2.ensures.block tells ∙ ap (λ h. block_of size (bytes_of Image h) c.args.to) c.in_ok-read_block.ensures.reads.held in
     ap (λ (p : Planned). p.blocks) c.in_ok-add_difference.ensures
     ∙ ap (λ more. c.args.plan.now.blocks ++ more)
     (compared disk (λ n. relocated n (disk c.args.from)) c.args.to c.read_block-2.new.into c.relocate.new.area now made)

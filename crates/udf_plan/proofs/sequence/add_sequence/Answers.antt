@@ -16,10 +16,10 @@ returns-then-sequences_agree-clause-added g c = λ tells.
     let image : List ℕ = bytes_of Image (g.B.Bench.held c.args.bench.now) in
     let kept : c.deref.result.now ≡ kept_list v image = c.deref.ensures.value ∙ c.in_ok-kept.ensures.list tells in
     let others : c.in_ok-other.other.descriptors.items ≡ front_of (said_in v.size image (other_span v)) =
-    c.in_ok-other.ensures.front tells ∙ ap (λ h. front_of (said_in v.size (bytes_of Image h) c.other_extent.result)) c.in_ok-kept.ensures.held
+    c.in_ok-other.ensures.front tells ∙ ap (λ h. front_of (said_in v.size (bytes_of Image h) c.other_extent.result)) c.in_ok-kept.ensures.reads.held
     ∙ ap (λ e. front_of (said_in v.size image e)) c.other_extent.ensures in
     let spoilt : c.in_ok-other.other.is_spoilt ≡ is_spoilt (said_in v.size image (other_span v)) =
-    c.in_ok-other.ensures.spoilt tells ∙ ap (λ h. is_spoilt (said_in v.size (bytes_of Image h) c.other_extent.result)) c.in_ok-kept.ensures.held
+    c.in_ok-other.ensures.spoilt tells ∙ ap (λ h. is_spoilt (said_in v.size (bytes_of Image h) c.other_extent.result)) c.in_ok-kept.ensures.reads.held
     ∙ ap (λ e. is_spoilt (said_in v.size image e)) c.other_extent.ensures in
     nothing v image c.args.plan.now.blocks
     (compared v image c.deref.result.now c.in_ok-other.other.descriptors.items c.in_ok-other.other.is_spoilt true kept others spoilt
@@ -32,12 +32,12 @@ returns-clause-added g c = λ tells.
     let list : c.in_ok-kept.kept.items ≡ kept_list v image = c.in_ok-kept.ensures.list tells in
     let kept : c.deref.result.now ≡ kept_list v image = c.deref.ensures.value ∙ list in
     let others : c.in_ok-other.other.descriptors.items ≡ front_of (said_in v.size image (other_span v)) =
-    c.in_ok-other.ensures.front tells ∙ ap (λ h. front_of (said_in v.size (bytes_of Image h) c.other_extent.result)) c.in_ok-kept.ensures.held
+    c.in_ok-other.ensures.front tells ∙ ap (λ h. front_of (said_in v.size (bytes_of Image h) c.other_extent.result)) c.in_ok-kept.ensures.reads.held
     ∙ ap (λ e. front_of (said_in v.size image e)) c.other_extent.ensures in
     let spoilt : c.in_ok-other.other.is_spoilt ≡ is_spoilt (said_in v.size image (other_span v)) =
-    c.in_ok-other.ensures.spoilt tells ∙ ap (λ h. is_spoilt (said_in v.size (bytes_of Image h) c.other_extent.result)) c.in_ok-kept.ensures.held
+    c.in_ok-other.ensures.spoilt tells ∙ ap (λ h. is_spoilt (said_in v.size (bytes_of Image h) c.other_extent.result)) c.in_ok-kept.ensures.reads.held
     ∙ ap (λ e. is_spoilt (said_in v.size image e)) c.other_extent.ensures in
-    let bench_held : g.B.Bench.held c.read_sequence.new.bench ≡ g.B.Bench.held c.args.bench.now = c.in_ok-other.ensures.held ∙ c.in_ok-kept.ensures.held in
+    let bench_held : g.B.Bench.held c.read_sequence.new.bench ≡ g.B.Bench.held c.args.bench.now = c.in_ok-other.ensures.reads.held ∙ c.in_ok-kept.ensures.reads.held in
     written v image c.args.plan.now.blocks c.add_copied.new.plan.blocks c.sector_of_logical-logical.result c.deref-2.result.now
     (compared v image c.deref.result.now c.in_ok-other.other.descriptors.items c.in_ok-other.other.is_spoilt false kept others spoilt
     (c.if-sequences_agree.ensures ∙ ap (λ n. agrees c.deref.result.now (whole_by n (listed_in c.in_ok-other.other))) c.limit.ensures))

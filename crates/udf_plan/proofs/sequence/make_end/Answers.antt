@@ -26,7 +26,7 @@ returns-clause-made g c = λ tells.
     let long : length c.read_block.new.into ≡ size = search rules in
     let P : Held → Type 0 = λ h. IfSome c.args.logical (λ n. c.read_or_blank.new.block ≡ block_of size (bytes_of Image h) n) in
     let some : IfSome c.args.logical (λ n. c.read_or_blank.new.block ≡ disk n) =
-    subst P c.in_ok-read_block.ensures.held (c.in_ok-read_or_blank.ensures.block tells) in
+    subst P c.in_ok-read_block.ensures.reads.held (c.in_ok-read_or_blank.ensures.block tells) in
     new_end size c.args.target (disk c.args.source) (block_at disk c.args.logical) c.write_terminator.new.block
     (ap (λ b. is_id 8 (whole_id b)) (sym source) ∙ sym c.if-is_terminator.ensures)
     (c.write_terminator.ensures ∙ ap (λ n. terminator n c.args.target c.read_or_blank.new.block) long

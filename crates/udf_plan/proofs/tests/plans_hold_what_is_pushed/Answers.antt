@@ -1,4 +1,4 @@
-use Rattle.udf_plan.proofs.Growing.{none_below}
+use Rattle.udf_blocks.proofs.Growing.{none_below}
 use Rattle.udf_plan.proofs.tests.plans_hold_what_is_pushed.Goals as goal
 
 pub push-requires-clause-above : goal.push-requires-clause-above

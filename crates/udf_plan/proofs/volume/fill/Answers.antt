@@ -6,7 +6,7 @@ use Rattle.udf_outside.specs.Stops.{Held, bytes_of}
 use Rattle.udf_outside.specs.declared.bench.Role.TheVariants.{Image}
 use Rattle.udf_volume.specs.Areas.{anchor_stated}
 use Rattle.udf_volume.specs.Spans.{other_span}
-use Rattle.udf_plan.specs.Planned.{Planned, are_below}
+use Rattle.udf_blocks.specs.Planned.{Planned, are_below}
 use Rattle.udf_plan.specs.Changes.{changes, anchor_after, KeepsTo, AscendFrom}
 use Rattle.udf_plan.specs.Stated.{all_changes, sequence_changes}
 use Rattle.udf_plan.proofs.Filling.{low_ascends, high_ascends, low_inside, high_inside, low_above, sequence_above, high_above, all_inside, all_unsealed, joined, extents_apart}
@@ -154,12 +154,12 @@ returns-clause-added g c =
     let made : Held → List ℕ → List (ℕ × List ℕ) =
     λ h xs. changes (block_of v.size (bytes_of Image h)) (anchor_after (block_of v.size (bytes_of Image h)) (anchor_stated v) kept) xs in
     let held : g.B.Bench.held c.add_sequence.new.bench ≡ g.B.Bench.held c.args.bench.now =
-    c.in_ok-add_sequence.ensures.held ∙ c.in_ok-add_anchors.ensures.held in
+    c.in_ok-add_sequence.ensures.reads.held ∙ c.in_ok-add_anchors.ensures.reads.held in
     joined none c.add_anchors.new.plan.blocks c.add_sequence.new.plan.blocks c.add_anchors-2.new.plan.blocks
     (made (g.B.Bench.held c.args.bench.now) (filter (λ place. ltb place (other_span v).start) places)) (sequence_changes v image)
     (made (g.B.Bench.held c.args.bench.now) (filter (λ place. leb (other_span v).start place) places)) blank
     (c.in_ok-add_anchors.ensures.added tells ∙ ap (λ xs. none ++ made (g.B.Bench.held c.args.bench.now) xs) low)
-    (c.in_ok-add_sequence.ensures.added tells ∙ ap (λ h. c.add_anchors.new.plan.blocks ++ sequence_changes v (bytes_of Image h)) c.in_ok-add_anchors.ensures.held)
+    (c.in_ok-add_sequence.ensures.added tells ∙ ap (λ h. c.add_anchors.new.plan.blocks ++ sequence_changes v (bytes_of Image h)) c.in_ok-add_anchors.ensures.reads.held)
     (c.in_ok-add_anchors-2.ensures.added tells
     ∙ ap (λ h. c.add_sequence.new.plan.blocks ++ made h c.deref-2.result.now) held
     ∙ ap (λ xs. c.add_sequence.new.plan.blocks ++ made (g.B.Bench.held c.args.bench.now) xs) high)

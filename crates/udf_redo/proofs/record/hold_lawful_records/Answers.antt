@@ -13,7 +13,7 @@ loop-k-init g c =
     let side = bytes_of Side (g.B.Bench.held c.args.bench.now) in record {
       files = search rules;
       held = search rules;
-      faults = omega arith;
+      faults = search rules;
       rest = λ tells. ap (λ q. are_lawful c.args.head.now 0 q) (left_first side c.args.head.now);
     }
 
@@ -36,7 +36,7 @@ loop-k-preserved g c =
     let at = 61 + c.loop-k.k * (4 + c.args.head.now.size) in record {
       files = c.read_at.ensures.files ∙ c.loop-k.invariant.files;
       held = c.read_at.ensures.held ∙ c.loop-k.invariant.held;
-      faults = omega (arith, c.loop-k.invariant.faults, c.read_at.ensures.cause.later);
+      faults = c.in_ok-read_at.ensures.calm ∙ c.loop-k.invariant.faults;
       rest = λ tells.
           let long : length c.loop-k.number ≡ 4 = search rules in
           let four : c.read_at.new.into ≡ slice_of side at 4 =

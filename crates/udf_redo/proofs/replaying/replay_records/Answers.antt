@@ -29,7 +29,7 @@ returns-in_err-sector-clause-moments g c tells =
     let start = g.B.Bench.held c.args.bench.now in
     let log = c.requires.log tells in
     let middle = g.B.Bench.held c.read_record.new.bench in
-    let read = quiet start log (g.B.Bench.held c.loop-k.bench) middle (c.loop-k.invariant.runs tells) c.read_record.ensures.held in
+    let read = quiet start log (g.B.Bench.held c.loop-k.bench) middle (c.loop-k.invariant.runs tells) c.read_record.ensures.reads.held in
     applying start log middle read
 
 pub returns-in_err-sector-clause-again : goal.returns-in_err-sector-clause-again
@@ -37,7 +37,7 @@ returns-in_err-sector-clause-again g c tells =
     let start = g.B.Bench.held c.args.bench.now in
     let log = c.requires.log tells in
     let middle = g.B.Bench.held c.read_record.new.bench in
-    let read = quiet start log (g.B.Bench.held c.loop-k.bench) middle (c.loop-k.invariant.runs tells) c.read_record.ensures.held in
+    let read = quiet start log (g.B.Bench.held c.loop-k.bench) middle (c.loop-k.invariant.runs tells) c.read_record.ensures.reads.held in
     (near_now start log middle read).same_applied
 
 pub returns-in_err-sector-clause-side : goal.returns-in_err-sector-clause-side
@@ -45,7 +45,7 @@ returns-in_err-sector-clause-side g c tells =
     let start = g.B.Bench.held c.args.bench.now in
     let log = c.requires.log tells in
     let middle = g.B.Bench.held c.read_record.new.bench in
-    let read = quiet start log (g.B.Bench.held c.loop-k.bench) middle (c.loop-k.invariant.runs tells) c.read_record.ensures.held in
+    let read = quiet start log (g.B.Bench.held c.loop-k.bench) middle (c.loop-k.invariant.runs tells) c.read_record.ensures.reads.held in
     (near_now start log middle read).same_side
 
 pub returns-in_err-sector-clause-log : goal.returns-in_err-sector-clause-log
@@ -53,7 +53,7 @@ returns-in_err-sector-clause-log g c tells =
     let start = g.B.Bench.held c.args.bench.now in
     let log = c.requires.log tells in
     let middle = g.B.Bench.held c.read_record.new.bench in
-    let read = quiet start log (g.B.Bench.held c.loop-k.bench) middle (c.loop-k.invariant.runs tells) c.read_record.ensures.held in
+    let read = quiet start log (g.B.Bench.held c.loop-k.bench) middle (c.loop-k.invariant.runs tells) c.read_record.ensures.reads.held in
     log_now start log middle read
 
 pub returns-in_err-write_inside-clause-moments : goal.returns-in_err-write_inside-clause-moments
@@ -61,7 +61,7 @@ returns-in_err-write_inside-clause-moments g c tells =
     let start = g.B.Bench.held c.args.bench.now in
     let log = c.requires.log tells in
     let middle = g.B.Bench.held c.read_record.new.bench in
-    let read = quiet start log (g.B.Bench.held c.loop-k.bench) middle (c.loop-k.invariant.runs tells) c.read_record.ensures.held in
+    let read = quiet start log (g.B.Bench.held c.loop-k.bench) middle (c.loop-k.invariant.runs tells) c.read_record.ensures.reads.held in
     let new = g.B.Bench.held c.write_inside.new.bench in
     let head = c.args.head.now in
     let same = c.requires.head tells in
@@ -79,7 +79,7 @@ returns-in_err-write_inside-clause-again g c tells =
     let start = g.B.Bench.held c.args.bench.now in
     let log = c.requires.log tells in
     let middle = g.B.Bench.held c.read_record.new.bench in
-    let read = quiet start log (g.B.Bench.held c.loop-k.bench) middle (c.loop-k.invariant.runs tells) c.read_record.ensures.held in
+    let read = quiet start log (g.B.Bench.held c.loop-k.bench) middle (c.loop-k.invariant.runs tells) c.read_record.ensures.reads.held in
     let new = g.B.Bench.held c.write_inside.new.bench in
     let head = c.args.head.now in
     let same = c.requires.head tells in
@@ -97,7 +97,7 @@ returns-in_err-write_inside-clause-side g c tells =
     let start = g.B.Bench.held c.args.bench.now in
     let log = c.requires.log tells in
     let middle = g.B.Bench.held c.read_record.new.bench in
-    let read = quiet start log (g.B.Bench.held c.loop-k.bench) middle (c.loop-k.invariant.runs tells) c.read_record.ensures.held in
+    let read = quiet start log (g.B.Bench.held c.loop-k.bench) middle (c.loop-k.invariant.runs tells) c.read_record.ensures.reads.held in
     let new = g.B.Bench.held c.write_inside.new.bench in
     let head = c.args.head.now in
     let same = c.requires.head tells in
@@ -115,7 +115,7 @@ returns-in_err-write_inside-clause-log g c tells =
     let start = g.B.Bench.held c.args.bench.now in
     let log = c.requires.log tells in
     let middle = g.B.Bench.held c.read_record.new.bench in
-    let read = quiet start log (g.B.Bench.held c.loop-k.bench) middle (c.loop-k.invariant.runs tells) c.read_record.ensures.held in
+    let read = quiet start log (g.B.Bench.held c.loop-k.bench) middle (c.loop-k.invariant.runs tells) c.read_record.ensures.reads.held in
     let new = g.B.Bench.held c.write_inside.new.bench in
     let head = c.args.head.now in
     let same = c.requires.head tells in
@@ -130,13 +130,13 @@ returns-in_err-write_inside-clause-log g c tells =
 
 pub loop-k-preserved : goal.loop-k-preserved
 loop-k-preserved g c = record {
-  files = c.write_inside.ensures.files ∙ c.read_record.ensures.files ∙ c.loop-k.invariant.files;
-  faults = omega (arith, c.loop-k.invariant.faults, c.read_record.ensures.cause.later, c.write_inside.ensures.cause.later);
+  files = c.write_inside.ensures.files ∙ c.read_record.ensures.reads.files ∙ c.loop-k.invariant.files;
+  faults = omega (arith, c.loop-k.invariant.faults, c.read_record.ensures.reads.later, c.write_inside.ensures.cause.later);
   image = λ tells.
       let start = g.B.Bench.held c.args.bench.now in
       let log = c.requires.log tells in
       let middle = g.B.Bench.held c.read_record.new.bench in
-      let read = quiet start log (g.B.Bench.held c.loop-k.bench) middle (c.loop-k.invariant.runs tells) c.read_record.ensures.held in
+      let read = quiet start log (g.B.Bench.held c.loop-k.bench) middle (c.loop-k.invariant.runs tells) c.read_record.ensures.reads.held in
       let new = g.B.Bench.held c.write_inside.new.bench in
       let head = c.args.head.now in
       let same = c.requires.head tells in
@@ -146,12 +146,12 @@ loop-k-preserved g c = record {
       let long = g.met.B.Bench.sizes c.args.bench.now Image tells c.requires.writable.0 in
       let done = c.in_ok-write_inside.ensures.writes tells (omega (arith, inside, long, c.requires.image)) in
       written (bytes_of Image start) head.size (records_of (bytes_of Side start)) c.loop-k.k edit (bytes_of Image middle) (bytes_of Image new) got
-      (ap (λ (h : Held). bytes_of Image h) c.read_record.ensures.held ∙ c.loop-k.invariant.image tells) (write_puts Image _ _ _ _ (Ok c.in_ok-write_inside.field-0) done);
+      (ap (λ (h : Held). bytes_of Image h) c.read_record.ensures.reads.held ∙ c.loop-k.invariant.image tells) (write_puts Image _ _ _ _ (Ok c.in_ok-write_inside.field-0) done);
   side = λ tells.
       let start = g.B.Bench.held c.args.bench.now in
       let log = c.requires.log tells in
       let middle = g.B.Bench.held c.read_record.new.bench in
-      let read = quiet start log (g.B.Bench.held c.loop-k.bench) middle (c.loop-k.invariant.runs tells) c.read_record.ensures.held in
+      let read = quiet start log (g.B.Bench.held c.loop-k.bench) middle (c.loop-k.invariant.runs tells) c.read_record.ensures.reads.held in
       let new = g.B.Bench.held c.write_inside.new.bench in
       let head = c.args.head.now in
       let same = c.requires.head tells in
@@ -167,7 +167,7 @@ loop-k-preserved g c = record {
       let start = g.B.Bench.held c.args.bench.now in
       let log = c.requires.log tells in
       let middle = g.B.Bench.held c.read_record.new.bench in
-      let read = quiet start log (g.B.Bench.held c.loop-k.bench) middle (c.loop-k.invariant.runs tells) c.read_record.ensures.held in
+      let read = quiet start log (g.B.Bench.held c.loop-k.bench) middle (c.loop-k.invariant.runs tells) c.read_record.ensures.reads.held in
       let new = g.B.Bench.held c.write_inside.new.bench in
       let head = c.args.head.now in
       let same = c.requires.head tells in
@@ -176,12 +176,12 @@ loop-k-preserved g c = record {
       let inside = record_inside start log head same c.loop-k.k edit got in
       let long = g.met.B.Bench.sizes c.args.bench.now Image tells c.requires.writable.0 in
       let writes = c.write_inside.ensures.writes tells (omega (arith, inside, long, c.requires.image)) in
-      write_other_durable Image _ _ middle new _ writes (subst (λ (h : Held). IsDurable Side h) (sym c.read_record.ensures.held) (c.loop-k.invariant.durable tells));
+      write_other_durable Image _ _ middle new _ writes (subst (λ (h : Held). IsDurable Side h) (sym c.read_record.ensures.reads.held) (c.loop-k.invariant.durable tells));
   runs = λ tells.
       let start = g.B.Bench.held c.args.bench.now in
       let log = c.requires.log tells in
       let middle = g.B.Bench.held c.read_record.new.bench in
-      let read = quiet start log (g.B.Bench.held c.loop-k.bench) middle (c.loop-k.invariant.runs tells) c.read_record.ensures.held in
+      let read = quiet start log (g.B.Bench.held c.loop-k.bench) middle (c.loop-k.invariant.runs tells) c.read_record.ensures.reads.held in
       let new = g.B.Bench.held c.write_inside.new.bench in
       let head = c.args.head.now in
       let same = c.requires.head tells in

@@ -8,9 +8,9 @@ use Rattle.udf_redo.proofs.seal.digest_of.Goals as goal
 
 pub loop-i-preserved : goal.loop-i-preserved
 loop-i-preserved g c = record {
-  files = c.read_block.ensures.files ∙ c.loop-i.invariant.files;
-  held = c.read_block.ensures.held ∙ c.loop-i.invariant.held;
-  faults = omega (arith, c.loop-i.invariant.faults, c.read_block.ensures.cause.later);
+  files = c.read_block.ensures.reads.files ∙ c.loop-i.invariant.files;
+  held = c.read_block.ensures.reads.held ∙ c.loop-i.invariant.held;
+  faults = c.in_ok-read_block.ensures.reads.calm ∙ c.loop-i.invariant.faults;
   holds = λ tells.
       let image = bytes_of Image (g.B.Bench.held c.args.bench.now) in
       let so_far = slice_of image (c.args.first * c.args.size) (c.loop-i.i * c.args.size) in

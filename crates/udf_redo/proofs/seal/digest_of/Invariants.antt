@@ -8,6 +8,6 @@ abbrev pub invariant-loop-i : goal.invariant-loop-i
 invariant-loop-i g l = record {
   files : g.B.Bench.files l.bench ≡ g.B.Bench.files l.fn.bench;
   held : g.B.Bench.held l.bench ≡ g.B.Bench.held l.fn.bench;
-  faults : g.B.Bench.faults l.fn.bench ≤ g.B.Bench.faults l.bench;
+  faults : g.B.Bench.faults l.bench ≡ g.B.Bench.faults l.fn.bench;
   holds : g.B.Bench.tells → Holds256 l.hasher (slice_of (bytes_of Image (g.B.Bench.held l.fn.bench)) (l.first * l.size) (l.i * l.size));
 }

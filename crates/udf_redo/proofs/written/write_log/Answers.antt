@@ -20,7 +20,7 @@ returns-in_err-block-clause-moments g c tells =
 
 pub returns-in_err-head-clause-moments : goal.returns-in_err-head-clause-moments
 returns-in_err-head-clause-moments g c tells =
-    quiet_logging (g.B.Bench.held c.args.bench.now) _ c.head_of.ensures.held (c.requires.settled tells) (c.requires.free tells)
+    quiet_logging (g.B.Bench.held c.args.bench.now) _ c.head_of.ensures.reads.held (c.requires.settled tells) (c.requires.free tells)
 
 pub write_body-requires-clause-size : goal.write_body-requires-clause-size
 write_body-requires-clause-size g c = omega (arith, (size_cases c.args.volume.now.size c.requires.size).1, c.in_ok-head.ensures.size)
@@ -34,8 +34,8 @@ returns-in_err-write_body-clause-moments g c tells =
     let start = g.B.Bench.held c.args.bench.now in
     let middle = g.B.Bench.held c.make_front.new.bench in
     let first : LeavesOnly start middle (IsLogging (bytes_of Image start)) =
-    subst (λ (h : Held). LeavesOnly h middle (IsLogging (bytes_of Image h))) c.head_of.ensures.held (c.make_front.ensures.moments tells) in
-    let image : bytes_of Image middle ≡ bytes_of Image start = c.make_front.ensures.image tells ∙ ap (λ (h : Held). bytes_of Image h) c.head_of.ensures.held in
+    subst (λ (h : Held). LeavesOnly h middle (IsLogging (bytes_of Image h))) c.head_of.ensures.reads.held (c.make_front.ensures.moments tells) in
+    let image : bytes_of Image middle ≡ bytes_of Image start = c.make_front.ensures.image tells ∙ ap (λ (h : Held). bytes_of Image h) c.head_of.ensures.reads.held in
     then_logging start middle _ first image (c.in_ok-make_front.ensures.shut tells) (c.write_body.ensures.moments tells)
 
 pub returns-clause-moments : goal.returns-clause-moments
@@ -43,8 +43,8 @@ returns-clause-moments g c tells =
     let start = g.B.Bench.held c.args.bench.now in
     let middle = g.B.Bench.held c.make_front.new.bench in
     let first : LeavesOnly start middle (IsLogging (bytes_of Image start)) =
-    subst (λ (h : Held). LeavesOnly h middle (IsLogging (bytes_of Image h))) c.head_of.ensures.held (c.make_front.ensures.moments tells) in
-    let image : bytes_of Image middle ≡ bytes_of Image start = c.make_front.ensures.image tells ∙ ap (λ (h : Held). bytes_of Image h) c.head_of.ensures.held in
+    subst (λ (h : Held). LeavesOnly h middle (IsLogging (bytes_of Image h))) c.head_of.ensures.reads.held (c.make_front.ensures.moments tells) in
+    let image : bytes_of Image middle ≡ bytes_of Image start = c.make_front.ensures.image tells ∙ ap (λ (h : Held). bytes_of Image h) c.head_of.ensures.reads.held in
     then_logging start middle _ first image (c.in_ok-make_front.ensures.shut tells) (c.write_body.ensures.moments tells)
 
 pub returns-clause-closed : goal.returns-clause-closed

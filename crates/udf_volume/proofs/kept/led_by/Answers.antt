@@ -42,7 +42,7 @@ returns-in-Some-2-clause-led g c = λ tells.
     (limit_is _ _ _ _ (anchor_seen c.args.anchor) c.min-limit.ensures c.blocks_of.ensures c.blocks_of-2.ensures)
     (ap (option_map (λ (v : Vec Descriptor Global). v.items)) (sym c.in_default.is) ∙ c.in_ok-descriptors.ensures.sequence tells)
     (ap (option_map (λ (v : Vec Descriptor Global). v.items)) (sym c.in-Some-2.is) ∙ c.in_ok-descriptors-2.ensures.sequence tells
-    ∙ ap at c.in_ok-descriptors.ensures.held)
+    ∙ ap at c.in_ok-descriptors.ensures.reads.held)
 
 pub returns-in-Some-2-clause-lawful : goal.returns-in-Some-2-clause-lawful
 returns-in-Some-2-clause-lawful g c = record {
@@ -63,4 +63,4 @@ returns-clause-led g c = λ tells.
     (limit_is _ _ _ _ (anchor_seen c.args.anchor) c.min-limit.ensures c.blocks_of.ensures c.blocks_of-2.ensures)
     (ap (option_map (λ (v : Vec Descriptor Global). v.items)) (sym c.in_default.is) ∙ c.in_ok-descriptors.ensures.sequence tells)
     (ap (option_map (λ (v : Vec Descriptor Global). v.items)) (sym c.in_default-2.is) ∙ c.in_ok-descriptors-2.ensures.sequence tells
-    ∙ ap at c.in_ok-descriptors.ensures.held)
+    ∙ ap at c.in_ok-descriptors.ensures.reads.held)

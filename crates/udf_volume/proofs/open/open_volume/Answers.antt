@@ -38,5 +38,5 @@ returns-clause-answers g c = λ tells.
     (c.requires.sized ∙ g.met.B.Bench.sizes c.args.bench.now Image tells c.requires.attached) _ _
     (omega (arith, c.if-whole-gt-MOST_BLOCKS.false)) (c.deref.ensures.value ∙ c.in_ok-places.ensures.places) (c.in_ok-search.ensures.found tells)
     ∙ ap (answer_of c.args.size (c.args.length / c.args.size) (block_of c.args.size (bytes_of Image (g.B.Bench.held c.args.bench.now)))) c.in-Kept.is
-    ∙ ap accepted_at (sym c.in_ok-search.ensures.held)))
+    ∙ ap accepted_at (sym c.in_ok-search.ensures.reads.held)))
     (c.accept.ensures.answers tells)

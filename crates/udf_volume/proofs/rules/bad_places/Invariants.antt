@@ -10,7 +10,7 @@ abbrev pub invariant-loop-place : goal.invariant-loop-place
 invariant-loop-place g l = record {
   files : g.B.Bench.files l.bench ≡ g.B.Bench.files l.initial.bench;
   held : g.B.Bench.held l.bench ≡ g.B.Bench.held l.initial.bench;
-  later : g.B.Bench.faults l.initial.bench ≤ g.B.Bench.faults l.bench;
+  calm : g.B.Bench.faults l.bench ≡ g.B.Bench.faults l.initial.bench;
   few : length l.bad.items ≤ l.place-index;
   bad : g.B.Bench.tells → l.bad.items ≡ filter
       (λ place. not (is_good (anchor_stated l.volume) place (block_of l.volume.size (bytes_of Image (g.B.Bench.held l.initial.bench)) place)))

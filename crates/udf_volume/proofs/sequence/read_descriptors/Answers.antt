@@ -8,9 +8,9 @@ use Rattle.udf_volume.proofs.sequence.read_descriptors.Goals as goal
 
 pub loop-i-preserved : goal.loop-i-preserved
 loop-i-preserved g c = record {
-  files = c.in_ok-read_block.ensures.files ∙ c.loop-i.invariant.files;
-  held = c.in_ok-read_block.ensures.held ∙ c.loop-i.invariant.held;
-  later = omega (arith, c.in_ok-read_block.ensures.cause.later, c.loop-i.invariant.later);
+  files = c.in_ok-read_block.ensures.reads.files ∙ c.loop-i.invariant.files;
+  held = c.in_ok-read_block.ensures.reads.held ∙ c.loop-i.invariant.held;
+  calm = c.in_ok-read_block.ensures.reads.calm ∙ c.loop-i.invariant.calm;
   short = search rules;
   so_far = λ tells.
       let disk : Held → ℕ → List ℕ = λ held. block_of c.args.size (bytes_of Image held) in

@@ -1,6 +1,6 @@
 use Rattle.std.proofs.Common.{◌≡◌, rules}
-use Rattle.udf_plan.proofs.Growing.{pushed}
-use Rattle.udf_plan.proofs.plan.Plan.push.Goals as goal
+use Rattle.udf_blocks.proofs.Growing.{pushed}
+use Rattle.udf_blocks.proofs.plan.Plan.push.Goals as goal
 
 pub invariant_of-self-2 : goal.invariant_of-self-2
 invariant_of-self-2 c =

@@ -1,9 +1,9 @@
 use Rattle.std.proofs.Common.{List, sym, subst}
-use Rattle.udf_plan.specs.Planned.{IsLawful}
-use Rattle.udf_plan.specs.Recorded.{recorded}
-use Rattle.udf_plan.specs.declared.plan.Placed.{Placed}
-use Rattle.udf_plan.proofs.Growing.{none}
-use Rattle.udf_plan.proofs.plan.Plan.blank.Goals as goal
+use Rattle.udf_blocks.specs.Planned.{IsLawful}
+use Rattle.udf_blocks.specs.Recorded.{recorded}
+use Rattle.udf_blocks.specs.declared.plan.Placed.{Placed}
+use Rattle.udf_blocks.proofs.Growing.{none}
+use Rattle.udf_blocks.proofs.plan.Plan.blank.Goals as goal
 
 pub invariant_of-result : goal.invariant_of-result
 invariant_of-result c =

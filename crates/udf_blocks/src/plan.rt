@@ -1,6 +1,6 @@
 //! A plan: blocks at ascending sectors.
 ghost use Rattle.std.specs.Prelude.{◌≡◌, ◌<◌, ◌++◌, ◌∷◌, [], length, slice_get, Some, OnOk, OnErr, true};
-ghost use Rattle.udf_plan.specs.Planned.{are_below, IsLawful};
+ghost use Rattle.udf_blocks.specs.Planned.{are_below, IsLawful};
 
 use std::alloc::Global;
 use std::marker::Model;
@@ -22,8 +22,8 @@ pub struct Plan {
 }
 
 impl Model for Plan {
-    ghost use Rattle.udf_plan.specs.Planned.{Planned, IsLawful};
-    ghost use Rattle.udf_plan.specs.Recorded.{recorded};
+    ghost use Rattle.udf_blocks.specs.Planned.{Planned, IsLawful};
+    ghost use Rattle.udf_blocks.specs.Recorded.{recorded};
 
     ghost Value = { Planned };
 

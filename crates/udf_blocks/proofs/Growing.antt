@@ -5,9 +5,9 @@ use Rattle.std.proofs.lemmas.Bool.{and_parts, and_from, eq-eqb, lt-ltb, ltb-true
 use Rattle.std.proofs.lemmas.List.{length-map}
 use Rattle.std.proofs.lemmas.List.Folds.{list_all-append}
 use Rattle.udf_volume_model.specs.Plans.{ClimbsFrom}
-use Rattle.udf_plan.specs.declared.plan.Placed.{Placed}
-use Rattle.udf_plan.specs.Recorded.{recorded}
-use Rattle.udf_plan.specs.Planned.{Planned, are_at, are_below, are_sized, IsLawful}
+use Rattle.udf_blocks.specs.declared.plan.Placed.{Placed}
+use Rattle.udf_blocks.specs.Recorded.{recorded}
+use Rattle.udf_blocks.specs.Planned.{Planned, are_at, are_below, are_sized, IsLawful}
 
 pub none : (size : ℕ) → IsLawful (record { size = size; blocks = [] })
 unfolding are_at are_sized

@@ -1,0 +1,25 @@
+//! The laws of a repair, as contracts of functions with empty bodies.
+ghost use Rattle.std.specs.Prelude.{◌≡◌, ◌≤◌, ℕ, List, [], length, true, false, is_ok};
+ghost use Rattle.udf_volume_model.specs.Opened.{difference};
+ghost use Rattle.udf_volume_model.specs.Plans.{IsRewrite};
+ghost use Rattle.udf_volume.specs.Writable.{opened_writable};
+ghost use Rattle.udf_repair_model.specs.Accepted.{is_accepted, is_unbroken, mended, mend};
+
+/// The mended image of an accepted one is accepted and breaks no rule, and every image is repaired to one that a second repair
+/// leaves. It differs at most in whole blocks: not at all where no rule is broken, and somewhere where an accepted image
+/// breaks one.
+pub fn repair_law()
+    ensures accepted { (size : ℕ) (image : List ℕ) → 512 ≤ size → is_accepted size image ≡ true → is_accepted size (mended size image) ≡ true }
+    ensures unbroken { (size : ℕ) (image : List ℕ) → 512 ≤ size → is_accepted size image ≡ true → is_unbroken size (mended size image) ≡ true }
+    ensures again { (size : ℕ) (image : List ℕ) → 512 ≤ size → mend size (mend size image) ≡ mend size image }
+    ensures still { (size : ℕ) (image : List ℕ) → is_unbroken size image ≡ true → mend size image ≡ image }
+    ensures rewrites { (size : ℕ) (image : List ℕ) → 512 ≤ size → IsRewrite size image (mend size image) }
+    ensures differs { (size : ℕ) (image : List ℕ) → 512 ≤ size → is_accepted size image ≡ true → is_unbroken size image ≡ false
+        → 1 ≤ length (difference size image (mend size image)) }
+    ensures alike { (size : ℕ) (image : List ℕ) → is_unbroken size image ≡ true → difference size image (mend size image) ≡ [] }
+{}
+
+/// An image is accepted for a repair exactly where a volume that may be written is opened.
+pub fn accepted_law()
+    ensures { (size : ℕ) (image : List ℕ) → is_accepted size image ≡ is_ok (opened_writable size image) }
+{}

@@ -1,0 +1,9 @@
+//! Images that a repair accepts, and what it makes of them: the words of the promises above, over all refusals and all rules
+//! that are built. Today they are those of the volume description. Towards the layers above: `repair_law` says what a mended
+//! image is, and `accepted_law` that an image is accepted exactly where a volume that may be written is opened. It stands on
+//! volumes and their laws.
+#![tactic(auto)]
+
+mod laws;
+
+pub use laws::{accepted_law, repair_law};
