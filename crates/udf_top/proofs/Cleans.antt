@@ -1,7 +1,7 @@
 -- When a run is clean, by the rules.
 use Rattle.std.proofs.Common.{◌≡◌, ℕ, zero, suc, List, [], ◌∷◌, refl, sym, ◌∙◌, ap, true, false, Result, Ok, Err, is_ok}
 use Rattle.udf_outside.specs.Stops.{Pair}
-use Rattle.udf_volume_model.specs.Accepted.{is_accepted, is_unbroken}
+use Rattle.udf_repair_model.specs.Accepted.{is_accepted, is_unbroken}
 use Rattle.udf_volume.specs.declared.missing.Missing.{Missing}
 use Rattle.udf_volume.specs.declared.volume.Volume.{Volume}
 use Rattle.udf_volume.specs.Opened.{opened}

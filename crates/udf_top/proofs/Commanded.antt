@@ -7,7 +7,8 @@ use Rattle.udf_top.specs.declared.outcome.Outcome.{Outcome}
 use Rattle.udf_top.specs.declared.outcome.Outcome.TheVariants as outcome
 use Rattle.udf_top.specs.Words.{Command, Repair, command_in, repair_by, repair_in}
 use Rattle.udf_top.specs.Texts.{text_of}
-use Rattle.udf_top.specs.Udffsck.{outcome_by, outcome_of, said_by, output_of, text_by, HasEnded, HoldsFront}
+use Rattle.udf_top.specs.Endings.{HasEnded}
+use Rattle.udf_top.specs.Udffsck.{outcome_by, outcome_of, said_by, output_of, text_by, HoldsFront}
 use Rattle.udf_top.proofs.Outcomes.{nothing_of}
 
 module _ (words : List (List ℕ)) (read : Result Command Cause) (is : command_in words ≡ read) where

@@ -1,12 +1,12 @@
 -- How a repair ends.
-use Rattle.std.proofs.Common.{◌≡◌, ◌≤◌, ℕ, zero, suc, List, [], ◌∷◌, ◌++◌, refl, sym, ◌∙◌, ap, subst, Bool, true, false, cond, Option, Some, Result, Ok, Err}
+use Rattle.std.proofs.Common.{◌≡◌, ◌⊎◌, inl, inr, ⊎_elim, ◌≤◌, ℕ, zero, suc, List, [], ◌∷◌, ◌++◌, refl, sym, ◌∙◌, ap, subst, Bool, true, false, cond, Option, Some, Result, Ok, Err}
 use Rattle.std.specs.Str.{bytes_eq}
 use Rattle.udf_outside.specs.declared.bench.Role.TheVariants.{Image, Side}
 use Rattle.udf_outside.specs.Stops.{Held, Pair, bytes_of, pair_of, moment, IsSettled, LeavesOnly}
 use Rattle.udf_outside.proofs.Moments.{seen_now, now_counts}
 use Rattle.udf_outside.proofs.Runs.{leaves_weaker, leaves_then}
-use Rattle.udf_volume_model.specs.Accepted.{is_accepted, is_unbroken, mended}
-use Rattle.udf_volume_laws.proofs.Final.{IsMendedImage, mended_image}
+use Rattle.udf_repair_model.specs.Accepted.{is_accepted, is_unbroken, mended, mend}
+use Rattle.udf_repair_model.proofs.Repair.{law, mend_accepted, still_accepted}
 use Rattle.udf_volume.specs.declared.missing.Missing.{Missing}
 use Rattle.udf_volume.specs.declared.volume.Volume.{Volume}
 use Rattle.udf_volume.specs.Writable.{opened_writable}
@@ -20,61 +20,49 @@ use Rattle.udf_top.specs.declared.outcome.Outcome.TheVariants as outcome
 use Rattle.udf_top.specs.Found.{findings_in}
 use Rattle.udf_top.specs.Texts.{text_of, replayed_text}
 use Rattle.udf_top.specs.Repairing.{replaying, refused_log, repaired_as, mend_of, mend_said, written_in, repair_from, repair_of, said_from, repair_said}
-use Rattle.udf_top.specs.Headline.{IsDone, HasRepaired, HasRepairedOrFailed, HasOpenedNoGate, IsSafe, Repairs}
+use Rattle.udf_top.specs.Endings.{Ending, Mended, Told, DeviceFailed, Failed, ending_of, IsEnd, IsMendedOrFailed, IsUnopened, HasEnded, HasRepaired, HasRepairedOrFailed, HasOpenedNoGate}
+use Rattle.udf_top.specs.Headline.{IsDone, IsSafe, IsReplayed, Repairs}
 use Rattle.udf_top.specs.Steps.{IsSettling, IsMending, IsMended, Mends, Says}
-use Rattle.udf_top.specs.Udffsck.{said_beside, HasEnded, HoldsFront}
+use Rattle.udf_top.specs.Udffsck.{said_beside, HoldsFront}
 use Rattle.udf_top.proofs.Commanded.{front_of_none}
 use Rattle.udf_top.proofs.Mending.{ended_repaired, mend_ok, mend_refused, accepted_ok, not_accepted}
-use Rattle.udf_top.proofs.Safe.{HasBegun, can_go, cannot, target_goes, safe_mending}
+use Rattle.udf_top.proofs.Safe.{HasBegun, can_go, cannot, not_open, target_goes, safe_mending}
 use Rattle.udf_top.proofs.Said.{says_failed, says_same, says_then, first_held}
 
--- outcomes
+-- outcomes, by their endings
 pub failed_or : (result : Outcome) → (HasEnded result → ⊥) → HasRepairedOrFailed result
-failed_or outcome.Clean f = tt
-failed_or (outcome.Repaired replayed written) f = tt
-failed_or (outcome.Broken findings) f = f tt
-failed_or (outcome.Refused missing) f = f tt
-failed_or (outcome.Usage cause) f = f tt
-failed_or outcome.SameFile f = f tt
-failed_or outcome.NotALog f = f tt
-failed_or outcome.BadLog f = f tt
-failed_or (outcome.WrongImage clash) f = f tt
-failed_or outcome.DeviceFault f = tt
-failed_or outcome.OutFault f = tt
-failed_or outcome.Memory f = tt
+failed_or result = by_ending (ending_of result) where
+  by_ending : (ending : Ending) → (IsEnd ending → ⊥) → IsMendedOrFailed ending
+  by_ending (Mended written) f = tt
+  by_ending Told f = f tt
+  by_ending DeviceFailed f = tt
+  by_ending Failed f = tt
+
+-- a run ended, or not
+has_or : (result : Outcome) → HasEnded result ⊎ (HasEnded result → ⊥)
+has_or result = by_ending (ending_of result) where
+  by_ending : (ending : Ending) → IsEnd ending ⊎ (IsEnd ending → ⊥)
+  by_ending (Mended written) = inl tt
+  by_ending Told = inl tt
+  by_ending DeviceFailed = inr (λ h. h)
+  by_ending Failed = inr (λ h. h)
 
 ended_as : (result wanted : Outcome) → (HasEnded result → result ≡ wanted) → HasRepairedOrFailed wanted → HasRepairedOrFailed result
-ended_as outcome.Clean wanted is w = tt
-ended_as (outcome.Repaired replayed written) wanted is w = tt
-ended_as (outcome.Broken findings) wanted is w = subst HasRepairedOrFailed (sym (is tt)) w
-ended_as (outcome.Refused missing) wanted is w = subst HasRepairedOrFailed (sym (is tt)) w
-ended_as (outcome.Usage cause) wanted is w = subst HasRepairedOrFailed (sym (is tt)) w
-ended_as outcome.SameFile wanted is w = subst HasRepairedOrFailed (sym (is tt)) w
-ended_as outcome.NotALog wanted is w = subst HasRepairedOrFailed (sym (is tt)) w
-ended_as outcome.BadLog wanted is w = subst HasRepairedOrFailed (sym (is tt)) w
-ended_as (outcome.WrongImage clash) wanted is w = subst HasRepairedOrFailed (sym (is tt)) w
-ended_as outcome.DeviceFault wanted is w = tt
-ended_as outcome.OutFault wanted is w = tt
-ended_as outcome.Memory wanted is w = tt
+ended_as result wanted is w =
+    ⊎_elim (λ ended. subst HasRepairedOrFailed (sym (is ended)) w) (λ failed. failed_or result failed) (has_or result)
 
 no_gate : (result : Outcome) → (HasRepairedOrFailed result → ⊥) → HasOpenedNoGate result
-no_gate outcome.Clean f = tt
-no_gate (outcome.Repaired replayed written) f = absurd (f tt)
-no_gate (outcome.Broken findings) f = tt
-no_gate (outcome.Refused missing) f = tt
-no_gate (outcome.Usage cause) f = tt
-no_gate outcome.SameFile f = tt
-no_gate outcome.NotALog f = tt
-no_gate outcome.BadLog f = tt
-no_gate (outcome.WrongImage clash) f = tt
-no_gate outcome.DeviceFault f = absurd (f tt)
-no_gate outcome.OutFault f = tt
-no_gate outcome.Memory f = tt
+no_gate result = by_ending (ending_of result) where
+  by_ending : (ending : Ending) → (IsMendedOrFailed ending → ⊥) → IsUnopened ending
+  by_ending (Mended written) f = absurd (f tt)
+  by_ending Told f = tt
+  by_ending DeviceFailed f = absurd (f tt)
+  by_ending Failed f = absurd (f tt)
 
 module _ (size : ℕ) (old middle : Held) (has : HasBegun size old middle) (result : Outcome) where
   -- a fault or want of memory came before the image was looked at
-  pub repairs_failed : (HasEnded result → ⊥) → Repairs size old middle result
-  repairs_failed failed = record {
+  pub repairs_failed : (HasEnded result → ⊥) → (HasOpenedNoGate result → (middle ≡ old) ⊎ IsReplayed (pair_of old) middle) → Repairs size old middle result
+  repairs_failed failed replayed = record {
     moments = has.safe;
     complete = λ can accepted. failed_or result failed;
     done = λ repaired. absurd (failed (ended_repaired result repaired));
@@ -82,6 +70,7 @@ module _ (size : ℕ) (old middle : Held) (has : HasBegun size old middle) (resu
     refused = λ none not. has.still none;
     settled_only = λ missing is. absurd (failed (subst HasEnded (sym is) tt));
     unopened = λ unopened. has.stands;
+    replayed_only = replayed;
   }
 
   -- the side file is no log of the image, or a fault or want of memory came
@@ -107,8 +96,26 @@ module _ (size : ℕ) (old middle : Held) (has : HasBegun size old middle) (resu
     not_refused stop.Fault missing e = absurd (cc)
     not_refused stop.Memory missing e = absurd (cc)
 
-    pub repairs_unsettled : Repairs size old middle result
-    repairs_unsettled = record {
+    -- where no call on the files failed, nothing was written
+    unwritten : (w : RedoStop) → Answers {T = ℕ} (replaying (pair_of old)) (Err w) → (w ≡ stop.Memory → middle ≡ old) → HasOpenedNoGate (refused_log w) → middle ≡ old
+    unwritten stop.NotALog e memory none = has.still (not_open (bytes_of Image old) (bytes_of Side old) stop.NotALog e)
+    unwritten stop.BadLog e memory none = has.still (not_open (bytes_of Image old) (bytes_of Side old) stop.BadLog e)
+    unwritten (stop.WrongImage clash) e memory none = has.still (not_open (bytes_of Image old) (bytes_of Side old) (stop.WrongImage clash) e)
+    unwritten stop.Fault e memory none = absurd none
+    unwritten stop.Memory e memory none = memory refl
+
+    -- where the outcome is not that of the stop, it is a failure that only a stop other than a fault leads to
+    unwritten_as : (why ≡ stop.Fault → result ≡ outcome.DeviceFault) → (why ≡ stop.Memory → middle ≡ old) → HasOpenedNoGate result → middle ≡ old
+    unwritten_as told memory none = by_stop why answers refl where
+      by_stop : (w : RedoStop) → Answers {T = ℕ} (replaying (pair_of old)) (Err w) → why ≡ w → middle ≡ old
+      by_stop stop.NotALog e w = unwritten stop.NotALog e (λ m. absurd (let no : stop.NotALog ≡ stop.Memory = m in cc)) tt
+      by_stop stop.BadLog e w = unwritten stop.BadLog e (λ m. absurd (let no : stop.BadLog ≡ stop.Memory = m in cc)) tt
+      by_stop (stop.WrongImage clash) e w = unwritten (stop.WrongImage clash) e (λ m. absurd (let no : stop.WrongImage clash ≡ stop.Memory = m in cc)) tt
+      by_stop stop.Fault e w = absurd (subst HasOpenedNoGate (told w) none)
+      by_stop stop.Memory e w = memory w
+
+    pub repairs_unsettled : (why ≡ stop.Fault → result ≡ outcome.DeviceFault) → (why ≡ stop.Memory → middle ≡ old) → Repairs size old middle result
+    repairs_unsettled told memory = record {
       moments = has.safe;
       complete = λ can accepted. failed_or result (λ ended. not_ended why answers can (subst HasEnded (is ended) ended));
       done = λ repaired. absurd (not_repaired why (subst HasRepaired (is (ended_repaired result repaired)) repaired));
@@ -116,6 +123,7 @@ module _ (size : ℕ) (old middle : Held) (has : HasBegun size old middle) (resu
       refused = λ none not. has.still none;
       settled_only = λ missing e. absurd (not_refused why missing (sym (is (subst HasEnded (sym e) tt)) ∙ e));
       unopened = λ unopened. has.stands;
+      replayed_only = λ none. inl (unwritten_as told memory none);
     }
 
     answered : (w : RedoStop) → Answers {T = ℕ} (replaying (pair_of old)) (Err w) → HasEnded (refused_log w) → replaying (pair_of old) ≡ Err w
@@ -201,9 +209,9 @@ module _ (size replayed : ℕ) (old middle end : Held) (result : Outcome) (large
   safe : LeavesOnly old end (IsSafe size (pair_of old))
   safe =
       leaves_then old middle end (IsSafe size (pair_of old)) has.safe
-      (leaves_weaker middle end (IsMending size (settled (pair_of old))) (IsSafe size (pair_of old))
+      (leaves_weaker middle end (IsMending size (settled (pair_of old)) (mend size (settled (pair_of old)))) (IsSafe size (pair_of old))
       (λ pair is. safe_mending size (pair_of old) pair can (pair_of middle) large image_is here is)
-      (subst (λ (v : List ℕ). LeavesOnly middle end (IsMending size v)) image_is mends.moments))
+      (subst (λ (v : List ℕ). LeavesOnly middle end (IsMending size v (mend size v))) image_is mends.moments))
 
   is_mend : HasEnded result → result ≡ mend_of size replayed (settled (pair_of old))
   is_mend ended = mends.outcome ended ∙ ap (mend_of size replayed) image_is
@@ -216,14 +224,21 @@ module _ (size replayed : ℕ) (old middle end : Held) (result : Outcome) (large
   done repaired =
       let j = settled (pair_of old) in
       let accepted = repaired_accepted size replayed j (subst HasRepaired (is_mend (ended_repaired result repaired)) repaired) in
-      let is : IsMended size j end = subst (λ (v : List ℕ). IsMended size v end) image_is (mends.done repaired) in
-      let law : IsMendedImage size j (mended size j) = mended_image size j large accepted in record {
+      let is : IsMended (mend size j) end = subst (λ (v : List ℕ). IsMended (mend size v) end) image_is (mends.done repaired) in
+      let made : bytes_of Image end ≡ mended size j = is.holds ∙ mend_accepted size j accepted in record {
         holds = is.holds ∙ sym (target_goes (bytes_of Image old) (bytes_of Side old) size can);
-        accepted = ap (is_accepted size) is.holds ∙ law.accepted;
-        unbroken = ap (is_unbroken size) is.holds ∙ law.rules;
+        accepted = ap (is_accepted size) made ∙ still_accepted size j large accepted;
+        unbroken = ap (is_unbroken size) made ∙ (law size j large accepted).rules;
         side = is.side;
         settled = is.settled;
       }
+
+  replayed_to : end ≡ middle → IsReplayed (pair_of old) end
+  replayed_to same = record {
+    holds = ap (λ (h : Held). bytes_of Image h) same ∙ image_is;
+    side = subst (λ (h : Held). IsFree (bytes_of Side h)) (sym same) free;
+    settled = subst (λ (h : Held). IsSettled h) (sym same) rests;
+  }
 
   pub repairs_mended : Repairs size old end result
   repairs_mended = record {
@@ -234,11 +249,8 @@ module _ (size replayed : ℕ) (old middle end : Held) (result : Outcome) (large
         let same = has.still none in
         mends.unbroken (ap (λ (h : Held). is_unbroken size (bytes_of Image h)) same ∙ unbroken) ∙ same;
     refused = λ none not. mends.unopened (no_gate result not) ∙ has.still none;
-    settled_only = λ missing e.
-        let same = mends.unopened (subst HasOpenedNoGate (sym e) tt) in (
-          ap (λ (h : Held). bytes_of Image h) same ∙ image_is,
-          (subst (λ (h : Held). IsFree (bytes_of Side h)) (sym same) free, subst (λ (h : Held). IsSettled h) (sym same) rests),
-        );
+    settled_only = λ missing e. replayed_to (mends.unopened (subst HasOpenedNoGate (sym e) tt));
+    replayed_only = λ none. inr (replayed_to (mends.unopened none));
     unopened = λ unopened.
         subst (λ (h : Held). LeavesOnly old h (λ pair. settled pair ≡ settled (pair_of old))) (sym (mends.unopened unopened)) has.stands;
   }

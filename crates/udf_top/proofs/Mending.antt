@@ -1,5 +1,5 @@
 -- What a repair of a settled image answers, and what it leaves of the files.
-use Rattle.std.proofs.Common.{◌≡◌, ℕ, zero, suc, ◌≤◌, arith, refl, sym, ◌∙◌, ap, subst, List, [], ◌∷◌, length, map, Bool, true, false, cond, eqb, Option, Some, None, Result, Ok, Err, is_ok}
+use Rattle.std.proofs.Common.{◌≡◌, ℕ, zero, suc, ◌<◌, ◌≤◌, arith, refl, sym, ◌∙◌, ap, subst, List, [], ◌∷◌, length, map, Bool, true, false, cond, eqb, Option, Some, None, Result, Ok, Err, is_ok}
 use Rattle.std.proofs.lemmas.List.{length-map}
 use Rattle.std.proofs.lemmas.Bool.{eqb-true}
 use Rattle.udf_model.specs.Image.{block_of, blocks_in}
@@ -10,10 +10,12 @@ use Rattle.udf_volume_model.specs.Kept as model
 use Rattle.udf_volume_model.specs.Kept.{volume_of}
 use Rattle.udf_volume_model.specs.Rules.{Found, findings}
 use Rattle.udf_volume_model.specs.Edits.{put_blocks}
-use Rattle.udf_volume_model.specs.Accepted.{is_accepted, is_unbroken, is_unbroken_by, mended, difference, plan_of}
+use Rattle.udf_volume_model.specs.Plans.{IsRewrite}
+use Rattle.udf_volume_model.specs.Opened.{is_volume_unbroken, is_volume_unbroken_by, difference, plan_of}
+use Rattle.udf_repair_model.specs.Accepted.{is_accepted, is_unbroken, mended, mend}
 use Rattle.udf_volume_laws.proofs.Applied.{plan_gives}
-use Rattle.udf_volume_laws.proofs.Twice.{stays}
-use Rattle.udf_volume_laws.proofs.Difference.{no_broken_rule, broken_differs}
+use Rattle.udf_repair_model.proofs.Repair.{mend_stays}
+use Rattle.udf_repair_model.proofs.Repair.{mend_accepted, mend_alike, mend_differs}
 use Rattle.udf_volume_laws.proofs.Findings as laws
 use Rattle.udf_volume.specs.declared.missing.Missing.{Missing}
 use Rattle.udf_volume.specs.declared.missing.Missing.TheVariants.{WriteProtected}
@@ -21,7 +23,7 @@ use Rattle.udf_volume.specs.declared.volume.Volume.{Volume}
 use Rattle.udf_volume.specs.Opened.{opened}
 use Rattle.udf_volume.specs.Writable.{opened_writable, is_protected, by_protection}
 use Rattle.udf_volume.proofs.Described.{opened_ok}
-use Rattle.udf_volume.proofs.Protected.{accepted_is}
+use Rattle.udf_repair_model.proofs.Repair.{accepted_is}
 use Rattle.udf_redo.specs.Log.{is_size}
 use Rattle.udf_redo.specs.Settled.{IsFree}
 use Rattle.udf_redo.proofs.Logged.{size_cases}
@@ -31,9 +33,8 @@ use Rattle.udf_top.specs.declared.outcome.Outcome.TheVariants as outcome
 use Rattle.udf_top.specs.Found.{finding_of, findings_by, findings_in}
 use Rattle.udf_top.specs.Texts.{text_of, mend_text}
 use Rattle.udf_top.specs.Repairing.{repaired_as, mend_by, mend_of, written_in, text_by_volume, mend_said}
-use Rattle.udf_top.specs.Headline.{HasRepaired, HasOpenedNoGate}
+use Rattle.udf_top.specs.Endings.{Ending, Mended, Told, DeviceFailed, Failed, ending_of, IsEnd, IsMendedEnd, HasEnded, HasRepaired, HasOpenedNoGate}
 use Rattle.udf_top.specs.Steps.{IsMending, IsMended, Mends}
-use Rattle.udf_top.specs.Udffsck.{HasEnded}
 use Rattle.udf_top.proofs.Settling.{settled_free}
 use Rattle.udf_top.proofs.Stepping.{resting}
 
@@ -58,6 +59,11 @@ opened_as size image volume e is = ap (λ (n : ℕ). opened n image) is ∙ open
 pub accepted_ok : (size : ℕ) (image : List ℕ) (volume : Volume) → opened_writable size image ≡ Ok volume → is_accepted size image ≡ true
 accepted_ok size image volume e = accepted_is size image ∙ ap is_ok e
 
+-- the plan of the volume's rules is that of the repair
+pub plan_is : (size : ℕ) (image : List ℕ) (volume : Volume) (plan : List (ℕ × List ℕ)) → opened_writable size image ≡ Ok volume
+    → plan ≡ plan_of size image (mended size image) → plan ≡ plan_of size image (mend size image)
+plan_is size image volume plan e is = is ∙ ap (plan_of size image) (sym (mend_accepted size image (accepted_ok size image volume e)))
+
 pub not_accepted : (size : ℕ) (image : List ℕ) (missing : Missing) → opened_writable size image ≡ Err missing → is_accepted size image ≡ false
 not_accepted size image missing e = accepted_is size image ∙ ap is_ok e
 
@@ -67,18 +73,18 @@ map_none [] e = refl
 map_none (found ∷ rest) e = absurd (cc)
 
 module _ (size : ℕ) (image : List ℕ) where
-  by_volume : (found : Option model.Volume) → is_unbroken_by size image found ≡ true → findings_by size image found ≡ []
+  by_volume : (found : Option model.Volume) → is_volume_unbroken_by size image found ≡ true → findings_by size image found ≡ []
   by_volume None e = absurd (cc)
   by_volume (Some v) e = ap (λ (fs : List Found). map finding_of fs) (laws.unbroken size (blocks_in size image) (block_of size image) v e)
 
   pub unbroken_finds_none : is_unbroken size image ≡ true → findings_in size image ≡ []
-  unfolding is_unbroken findings_in
+  unfolding is_volume_unbroken findings_in
   unbroken_finds_none e = by_volume (volume_of size image) e
 
   pub none_found : (v : model.Volume) → volume_of size image ≡ Some v → findings_in size image ≡ [] → is_unbroken size image ≡ true
-  unfolding is_unbroken findings_in
+  unfolding is_volume_unbroken findings_in
   none_found v is e =
-      ap (is_unbroken_by size image) is
+      ap (is_volume_unbroken_by size image) is
       ∙ laws.broken size (blocks_in size image) (block_of size image) v (map_none _ (sym (ap (findings_by size image) is) ∙ e))
 
   pub none_unbroken_image : (volume : Volume) → opened_writable size image ≡ Ok volume → findings_in size image ≡ [] → is_unbroken size image ≡ true
@@ -87,15 +93,15 @@ module _ (size : ℕ) (image : List ℕ) where
 
   pub nothing_written : is_unbroken size image ≡ true → written_in size image ≡ 0
   unfolding written_in
-  nothing_written e = ap length (no_broken_rule size image e)
+  nothing_written e = ap length (mend_alike size image e)
 
   pub some_written : 512 ≤ size → is_accepted size image ≡ true → is_unbroken size image ≡ false → 1 ≤ written_in size image
   unfolding written_in
-  some_written high accepted broken = broken_differs size image high accepted broken
+  some_written high accepted broken = mend_differs size image high accepted broken
 
-  pub written_is : length (plan_of size image (mended size image)) ≡ written_in size image
+  pub written_is : length (plan_of size image (mend size image)) ≡ written_in size image
   unfolding plan_of written_in
-  written_is = length-map (difference size image (mended size image)) _
+  written_is = length-map (difference size image (mend size image)) _
 
   pub said_ok : (medium : List ℕ) (volume : Volume) → opened_writable size image ≡ Ok volume
       → mend_said size medium image ≡ mend_text medium (findings_in size image) (written_in size image)
@@ -104,7 +110,7 @@ module _ (size : ℕ) (image : List ℕ) where
 
   -- what is put before the difference is written
   pub text_is : (medium : List ℕ) (volume : Volume) (findings : List Finding) (plan : List (ℕ × List ℕ)) (count : ℕ) → opened_writable size image ≡ Ok volume
-      → findings ≡ findings_in size image → plan ≡ plan_of size image (mended size image) → count ≡ length plan → mend_text medium findings count ≡ mend_said size medium image
+      → findings ≡ findings_in size image → plan ≡ plan_of size image (mend size image) → count ≡ length plan → mend_text medium findings count ≡ mend_said size medium image
   text_is medium volume findings plan count e found is n =
       ap (λ (fs : List Finding). mend_text medium fs count) found
       ∙ ap (λ (k : ℕ). mend_text medium (findings_in size image) k) (n ∙ ap length is ∙ written_is)
@@ -123,15 +129,15 @@ module _ (size : ℕ) (image : List ℕ) where
   unfolding mend_of
   mend_refused replayed missing e = ap (λ (r : Result Volume Missing). mend_by r replayed (findings_in size image) (written_in size image)) e
 
-  -- an empty plan, and an image that breaks no rule, is the mended one
+  -- an empty plan changes nothing
   by_length : (plan : List (ℕ × List ℕ)) → length plan ≡ 0 → plan ≡ []
   by_length [] e = refl
   by_length (edit ∷ rest) e = absurd (cc)
 
-  pub empty_plan : (plan : List (ℕ × List ℕ)) → 512 ≤ size → plan ≡ plan_of size image (mended size image) → length plan ≡ 0 → image ≡ mended size image
+  pub empty_plan : (plan : List (ℕ × List ℕ)) (after : List ℕ) → 0 < size → IsRewrite size image after → plan ≡ plan_of size image after → length plan ≡ 0 → image ≡ after
   unfolding put_blocks
-  empty_plan plan high is none =
-      ap (λ (edits : List (ℕ × List ℕ)). put_blocks size edits image) (sym (by_length plan none) ∙ is) ∙ plan_gives size image high
+  empty_plan plan after some rewrites is none =
+      ap (λ (edits : List (ℕ × List ℕ)). put_blocks size edits image) (sym (by_length plan none) ∙ is) ∙ plan_gives size image after some rewrites
 
   -- a repair of broken rules ends as repaired
   pub repaired_broken : (replayed : ℕ) (findings : List Finding) (written : ℕ) → 1 ≤ length findings → repaired_as replayed findings written ≡ outcome.Repaired replayed written
@@ -149,37 +155,31 @@ empty_is [] e = refl
 empty_is (finding ∷ rest) e = absurd (let no : suc (length rest) ≡ 0 = eqb-true _ _ (sym e) in omega (arith, no))
 
 pub ended_repaired : (result : Outcome) → HasRepaired result → HasEnded result
-ended_repaired outcome.Clean h = tt
-ended_repaired (outcome.Repaired replayed written) h = tt
-ended_repaired (outcome.Broken findings) h = absurd h
-ended_repaired (outcome.Refused missing) h = absurd h
-ended_repaired (outcome.Usage cause) h = absurd h
-ended_repaired outcome.SameFile h = absurd h
-ended_repaired outcome.NotALog h = absurd h
-ended_repaired outcome.BadLog h = absurd h
-ended_repaired (outcome.WrongImage clash) h = absurd h
-ended_repaired outcome.DeviceFault h = absurd h
-ended_repaired outcome.OutFault h = absurd h
-ended_repaired outcome.Memory h = absurd h
+ended_repaired result = by_ending (ending_of result) where
+  by_ending : (ending : Ending) → IsMendedEnd ending → IsEnd ending
+  by_ending (Mended written) h = tt
+  by_ending Told h = absurd h
+  by_ending DeviceFailed h = absurd h
+  by_ending Failed h = absurd h
 
 -- nothing was written
 module _ (size : ℕ) (old new : Held) (settled : IsSettled old) (free : IsFree (bytes_of Side old)) (same : new ≡ old) where
-  pub quiet : LeavesOnly old new (IsMending size (bytes_of Image old))
-  quiet =
-      leaves_same old new (IsMending size (bytes_of Image old)) same
-      (λ pair now. subst (λ (p : Pair). IsMending size (bytes_of Image old) p) (sym (settled pair now))
-      (resting size (bytes_of Image old) (pair_of old) refl free (settled_free (bytes_of Image old) (bytes_of Side old) free)))
+  pub quiet : (after : List ℕ) → LeavesOnly old new (IsMending size (bytes_of Image old) after)
+  quiet after =
+      leaves_same old new (IsMending size (bytes_of Image old) after) same
+      (λ pair now. subst (λ (p : Pair). IsMending size (bytes_of Image old) after p) (sym (settled pair now))
+      (resting size (bytes_of Image old) after (pair_of old) refl free (settled_free (bytes_of Image old) (bytes_of Side old) free)))
 
-  pub mended_still : bytes_of Image old ≡ mended size (bytes_of Image old) → IsMended size (bytes_of Image old) new
-  mended_still is =
-      subst (λ (held : Held). IsMended size (bytes_of Image old) held) (sym same) (record { holds = is; side = free; settled = settled })
+  pub mended_still : (after : List ℕ) → bytes_of Image old ≡ after → IsMended after new
+  mended_still after is =
+      subst (λ (held : Held). IsMended after held) (sym same) (record { holds = is; side = free; settled = settled })
 
   module _ (replayed : ℕ) (result : Outcome) where
     -- a fault or want of memory came
     pub mends_stopped : (HasEnded result → ⊥) → Mends size replayed old new result
     mends_stopped failed = record {
       outcome = λ ended. absurd (failed ended);
-      moments = quiet;
+      moments = quiet _;
       done = λ repaired. absurd (failed (ended_repaired result repaired));
       unopened = λ none. same;
       unbroken = λ unbroken. same;
@@ -190,7 +190,7 @@ module _ (size : ℕ) (old new : Held) (settled : IsSettled old) (free : IsFree 
         → Mends size replayed old new result
     mends_refused missing e is = record {
       outcome = λ ended. is ended ∙ sym (mend_refused size (bytes_of Image old) replayed missing e);
-      moments = quiet;
+      moments = quiet _;
       done = λ repaired. absurd (subst HasRepaired (is (ended_repaired result repaired)) repaired);
       unopened = λ none. same;
       unbroken = λ unbroken. same;
@@ -206,8 +206,8 @@ module _ (size : ℕ) (old new : Held) (settled : IsSettled old) (free : IsFree 
               ∙ ap (λ (n : ℕ). repaired_as replayed [] n) (sym (nothing_written size image unbroken))
               ∙ ap (λ (fs : List Finding). repaired_as replayed fs (written_in size image)) (sym none)
               ∙ sym (mend_ok size image replayed volume e);
-          moments = quiet;
-          done = λ repaired. mended_still (sym (stays size image unbroken));
+          moments = quiet _;
+          done = λ repaired. mended_still _ (sym (mend_stays size image unbroken));
           unopened = λ opened. same;
           unbroken = λ holds. same;
         }
@@ -215,8 +215,8 @@ module _ (size : ℕ) (old new : Held) (settled : IsSettled old) (free : IsFree 
 -- the difference was written, or a stop came
 pub mends_broken : (size replayed count : ℕ) (old new : Held) (result : Outcome) (volume : Volume) → opened_writable size (bytes_of Image old) ≡ Ok volume
     → 1 ≤ length (findings_in size (bytes_of Image old)) → count ≡ written_in size (bytes_of Image old)
-    → (HasEnded result → result ≡ outcome.Repaired replayed count) → LeavesOnly old new (IsMending size (bytes_of Image old))
-    → (HasEnded result → IsMended size (bytes_of Image old) new) → (HasOpenedNoGate result → new ≡ old) → Mends size replayed old new result
+    → (HasEnded result → result ≡ outcome.Repaired replayed count) → LeavesOnly old new (IsMending size (bytes_of Image old) (mend size (bytes_of Image old)))
+    → (HasEnded result → IsMended (mend size (bytes_of Image old)) new) → (HasOpenedNoGate result → new ≡ old) → Mends size replayed old new result
 mends_broken size replayed count old new result volume e broken count_is is moments done unopened =
     let image = bytes_of Image old in record {
       outcome = λ ended. is ended ∙ ap (λ (n : ℕ). outcome.Repaired replayed n) count_is

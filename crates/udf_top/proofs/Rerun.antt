@@ -3,11 +3,11 @@ use Rattle.std.proofs.Common.{◌≡◌, inl, inr, ℕ, List, [], ◌∷◌, ref
 use Rattle.std.proofs.Common.{Ok}
 use Rattle.udf_outside.specs.declared.bench.Role.TheVariants.{Image, Side}
 use Rattle.udf_outside.specs.Stops.{Held, Pair, bytes_of, pair_of}
-use Rattle.udf_volume_laws.proofs.Twice.{stays}
+use Rattle.udf_repair_model.proofs.Repair.{mend_stays}
 use Rattle.udf_redo.specs.declared.side.SideState.TheVariants.{Empty, Closed, Open}
 use Rattle.udf_redo.specs.Log.{head_in}
 use Rattle.udf_redo.specs.Settled.{settled, IsOpenLog, IsFree}
-use Rattle.udf_volume_model.specs.Accepted.{mended}
+use Rattle.udf_repair_model.specs.Accepted.{mend}
 use Rattle.std.proofs.Common.{ap}
 use Rattle.udf_top.specs.Repairing.{target}
 use Rattle.udf_top.specs.Headline.{IsDone}
@@ -29,5 +29,5 @@ settled_done size start end done = settled_free (bytes_of Image end) (bytes_of S
 pub target_done : (size : ℕ) (start : Pair) (end : Held) → IsDone size start end → target size (pair_of end) ≡ bytes_of Image end
 target_done size start end done =
     target_goes (bytes_of Image end) (bytes_of Side end) size (inl done.side)
-    ∙ ap (mended size) (settled_done size start end done)
-    ∙ stays size (bytes_of Image end) done.unbroken
+    ∙ ap (mend size) (settled_done size start end done)
+    ∙ mend_stays size (bytes_of Image end) done.unbroken

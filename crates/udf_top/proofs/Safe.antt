@@ -3,8 +3,9 @@ use Rattle.std.proofs.Common.{◌≡◌, ◌⊎◌, inl, inr, ⊎_elim, ◌≤�
 use Rattle.udf_outside.specs.declared.bench.Role.TheVariants.{Image, Side}
 use Rattle.udf_outside.specs.Stops.{Held, Pair, bytes_of, pair_of, IsSettled, LeavesOnly}
 use Rattle.udf_outside.proofs.Runs.{leaves_same, leaves_weaker}
-use Rattle.udf_volume_model.specs.Accepted.{mended, plan_of}
-use Rattle.udf_volume_laws.proofs.Twice.{mended_twice}
+use Rattle.udf_volume_model.specs.Opened.{plan_of}
+use Rattle.udf_repair_model.specs.Accepted.{mend}
+use Rattle.udf_repair_model.proofs.Repair.{mend_twice}
 use Rattle.udf_redo.specs.declared.side.SideState.{SideState}
 use Rattle.udf_redo.specs.declared.side.SideState.TheVariants.{Empty, Closed, Open}
 use Rattle.udf_redo.specs.declared.stop.RedoStop.{RedoStop}
@@ -49,7 +50,7 @@ module _ (image side : List ℕ) where
     by_answer (Err why) e = inr (sym (settled_other image side (not_open why e)))
 
   module _ (size : ℕ) where
-    pub target_goes : CanGoOn (image, side) → target size (image, side) ≡ mended size (settled (image, side))
+    pub target_goes : CanGoOn (image, side) → target size (image, side) ≡ mend size (settled (image, side))
     unfolding target
     target_goes can = ap (λ (r : Result ℕ RedoStop). target_by size r image (settled (image, side))) (goes can).1
 
@@ -66,7 +67,7 @@ safe_self size start = record {
 module _ (size : ℕ) (start pair : Pair) (can : CanGoOn start) where
   pub safe_settling : IsSettling start pair → IsSafe size start pair
   safe_settling is = record {
-    same_target = target_goes pair.0 pair.1 size is.goes_on ∙ ap (mended size) is.stands_for ∙ sym (target_goes start.0 start.1 size can);
+    same_target = target_goes pair.0 pair.1 size is.goes_on ∙ ap (mend size) is.stands_for ∙ sym (target_goes start.0 start.1 size can);
     gate = ⊎_elim (λ log. inl log) (λ same. inr (inl (same ∙ is.stands_for))) (gate_of pair.0 pair.1 is.goes_on);
     same_length = is.same_length;
     same_elsewhere = λ i log plan. is.same_elsewhere i log;
@@ -74,11 +75,11 @@ module _ (size : ℕ) (start pair : Pair) (can : CanGoOn start) where
   }
 
   -- `middle` is the pair after the replay
-  pub safe_mending : (middle : Pair) → 512 ≤ size → middle.0 ≡ settled start → IsSettling start middle → IsMending size (settled start) pair → IsSafe size start pair
+  pub safe_mending : (middle : Pair) → 512 ≤ size → middle.0 ≡ settled start → IsSettling start middle → IsMending size (settled start) (mend size (settled start)) pair → IsSafe size start pair
   safe_mending middle large same before is =
-      let wanted : target size start ≡ mended size (settled start) = target_goes start.0 start.1 size can in record {
+      let wanted : target size start ≡ mend size (settled start) = target_goes start.0 start.1 size can in record {
         same_target = target_goes pair.0 pair.1 size is.goes_on
-            ∙ ⊎_elim (λ as_is. ap (mended size) as_is) (λ done. ap (mended size) done ∙ mended_twice size (settled start) large) is.stands_for
+            ∙ ⊎_elim (λ as_is. ap (mend size) as_is) (λ done. ap (mend size) done ∙ mend_twice size (settled start) large) is.stands_for
             ∙ sym wanted;
         gate = ⊎_elim (λ log. inl log)
             (λ here. inr (⊎_elim (λ as_is. inl (here ∙ as_is)) (λ done. inr (here ∙ done ∙ sym wanted)) is.stands_for))

@@ -4,7 +4,8 @@ use Rattle.std.proofs.lemmas.List.{append_assoc, take_all, places, same_lists}
 use Rattle.std.proofs.Math.Seq.{take-append-add}
 use Rattle.udf_top.specs.declared.outcome.Outcome.{Outcome}
 use Rattle.udf_top.specs.Steps.{Says}
-use Rattle.udf_top.specs.Udffsck.{HasEnded, HoldsFront}
+use Rattle.udf_top.specs.Endings.{HasEnded}
+use Rattle.udf_top.specs.Udffsck.{HoldsFront}
 
 pub all_held : (told : Option (List ℕ)) (before text : List ℕ) → told ≡ Some (before ++ text) → HoldsFront told before text
 all_held told before text e = (length text, e ∙ ap (λ (t : List ℕ). Some (before ++ t)) (sym (take_all (length text) text (omega arith))))

@@ -1,17 +1,17 @@
 -- What a repair asks of its bench.
-use Rattle.std.specs.Prelude.{◌≡◌, ◌⊎◌, false, List, ℕ, Some, IfSome}
+use Rattle.std.specs.Prelude.{◌≡◌, ◌⊎◌, true, false, List, ℕ, Some, IfSome}
 use Rattle.udf_outside.specs.declared.bench.Access.TheVariants.{Write, Create}
 use Rattle.udf_outside.specs.Files.{Files}
 use Rattle.udf_top.specs.Words.{Repair}
 use Rattle.udf_top.specs.declared.outcome.Outcome.{Outcome}
 use Rattle.udf_top.specs.declared.outcome.Outcome.TheVariants as outcome
 
--- the side file was asked for by this name, to be made where it is missing; or nothing was asked of it, where the image could
--- not be attached
+-- the image was attached, and then the side file asked for by this name, to be made where it is missing; or nothing was asked
+-- of it, where the image could not be attached
 abbrev pub WasAsked : List ℕ → Files → Files → Type 0
 WasAsked name old new =
     ((new.image.attached ≡ false) × (new.side ≡ old.side))
-    ⊎ ((new.side.asked ≡ Some Create) × IfSome new.side.name (λ told. told ≡ name))
+    ⊎ ((new.image.attached ≡ true) × ((new.side.asked ≡ Some Create) × IfSome new.side.name (λ told. told ≡ name)))
 
 -- A repair asked for the image by its name, for writing, and then for the side file; or, for want of memory, for nothing.
 abbrev pub AsksFor : Repair → Outcome → Files → Files → Type 0

@@ -2,12 +2,14 @@
 use Rattle.std.specs.Prelude.{◌≡◌, ◌⊎◌, ℕ, true, length, slice_index}
 use Rattle.udf_outside.specs.declared.bench.Role.TheVariants.{Image, Side}
 use Rattle.udf_outside.specs.Stops.{Held, Pair, bytes_of, pair_of, IsSettled, LeavesOnly}
-use Rattle.udf_volume_model.specs.Accepted.{is_accepted, is_unbroken, plan_of}
+use Rattle.udf_volume_model.specs.Opened.{plan_of}
+use Rattle.udf_repair_model.specs.Accepted.{is_accepted, is_unbroken}
 use Rattle.udf_volume.specs.declared.missing.Missing.{Missing}
 use Rattle.udf_redo.specs.Log.{head_in, sealed_in}
 use Rattle.udf_redo.specs.Settled.{settled, IsOpenLog, IsFree, CanGoOn, IsElsewhere}
 use Rattle.udf_top.specs.declared.outcome.Outcome.{Outcome}
 use Rattle.udf_top.specs.declared.outcome.Outcome.TheVariants as outcome
+use Rattle.udf_top.specs.Endings.{HasRepaired, HasRepairedOrFailed, HasOpenedNoGate}
 use Rattle.udf_top.specs.Repairing.{target, logged, log_size}
 
 -- What a stop leaves of a repair that began with the pair `start`: a rerun has the same target, the image is the settled or the
@@ -32,50 +34,11 @@ pub record IsDone (size : ℕ) (start : Pair) (end : Held) : Type 0 where
   pub side : IsFree (bytes_of Side end)
   pub settled : IsSettled end
 
--- the repair ended
-abbrev pub HasRepaired : Outcome → Type 0
-HasRepaired outcome.Clean = Unit {0}
-HasRepaired (outcome.Repaired replayed written) = Unit {0}
-HasRepaired (outcome.Broken findings) = ⊥
-HasRepaired (outcome.Refused missing) = ⊥
-HasRepaired (outcome.Usage cause) = ⊥
-HasRepaired outcome.SameFile = ⊥
-HasRepaired outcome.NotALog = ⊥
-HasRepaired outcome.BadLog = ⊥
-HasRepaired (outcome.WrongImage clash) = ⊥
-HasRepaired outcome.DeviceFault = ⊥
-HasRepaired outcome.OutFault = ⊥
-HasRepaired outcome.Memory = ⊥
-
--- it ended, or failed for a fault or want of memory
-abbrev pub HasRepairedOrFailed : Outcome → Type 0
-HasRepairedOrFailed outcome.Clean = Unit {0}
-HasRepairedOrFailed (outcome.Repaired replayed written) = Unit {0}
-HasRepairedOrFailed (outcome.Broken findings) = ⊥
-HasRepairedOrFailed (outcome.Refused missing) = ⊥
-HasRepairedOrFailed (outcome.Usage cause) = ⊥
-HasRepairedOrFailed outcome.SameFile = ⊥
-HasRepairedOrFailed outcome.NotALog = ⊥
-HasRepairedOrFailed outcome.BadLog = ⊥
-HasRepairedOrFailed (outcome.WrongImage clash) = ⊥
-HasRepairedOrFailed outcome.DeviceFault = Unit {0}
-HasRepairedOrFailed outcome.OutFault = Unit {0}
-HasRepairedOrFailed outcome.Memory = Unit {0}
-
--- neither repaired nor ended by a failing device: no gate of the run's own was opened
-abbrev pub HasOpenedNoGate : Outcome → Type 0
-HasOpenedNoGate outcome.Clean = Unit {0}
-HasOpenedNoGate (outcome.Repaired replayed written) = written ≡ 0
-HasOpenedNoGate (outcome.Broken findings) = Unit {0}
-HasOpenedNoGate (outcome.Refused missing) = Unit {0}
-HasOpenedNoGate (outcome.Usage cause) = Unit {0}
-HasOpenedNoGate outcome.SameFile = Unit {0}
-HasOpenedNoGate outcome.NotALog = Unit {0}
-HasOpenedNoGate outcome.BadLog = Unit {0}
-HasOpenedNoGate (outcome.WrongImage clash) = Unit {0}
-HasOpenedNoGate outcome.DeviceFault = ⊥
-HasOpenedNoGate outcome.OutFault = Unit {0}
-HasOpenedNoGate outcome.Memory = Unit {0}
+-- The files after a run that at most replayed a log: the image is the settled one, no log is open, and nothing is pending.
+pub record IsReplayed (start : Pair) (end : Held) : Type 0 where
+  pub holds : bytes_of Image end ≡ settled start
+  pub side : IsFree (bytes_of Side end)
+  pub settled : IsSettled end
 
 -- From the start `old` to the end `new`, over files that are told:
 pub record Repairs (size : ℕ) (old new : Held) (result : Outcome) : Type 0 where
@@ -90,7 +53,9 @@ pub record Repairs (size : ℕ) (old new : Held) (result : Outcome) : Type 0 whe
   pub still : (IsOpenLog (bytes_of Side old) (bytes_of Image old) → ⊥) → is_unbroken size (bytes_of Image old) ≡ true → new ≡ old
   pub refused : (IsOpenLog (bytes_of Side old) (bytes_of Image old) → ⊥) → (HasRepairedOrFailed result → ⊥) → new ≡ old
   -- a refused image is the settled one
-  pub settled_only : (missing : Missing) → result ≡ outcome.Refused missing → (bytes_of Image new ≡ settled (pair_of old)) × (IsFree (bytes_of Side new) × IsSettled new)
+  pub settled_only : (missing : Missing) → result ≡ outcome.Refused missing → IsReplayed (pair_of old) new
   -- From the opening of its gate on a run ends unless the device fails: in one that ends otherwise, or repairs no block, each
   -- moment stands for the settled image.
   pub unopened : HasOpenedNoGate result → LeavesOnly old new (λ pair. settled pair ≡ settled (pair_of old))
+  -- Such a run has written nothing, or no more than an open log of the image, to its end and with nothing pending.
+  pub replayed_only : HasOpenedNoGate result → (new ≡ old) ⊎ IsReplayed (pair_of old) new

@@ -1,7 +1,8 @@
 -- What `udffsck -p` answers and prints, and the image that it ends in.
 use Rattle.std.specs.Prelude.{ℕ, zero, suc, if◌then◌else◌, List, [], ◌∷◌, ◌++◌, length, Result, Ok, Err}
 use Rattle.udf_outside.specs.Stops.{Pair}
-use Rattle.udf_volume_model.specs.Accepted.{mended, difference}
+use Rattle.udf_volume_model.specs.Opened.{difference}
+use Rattle.udf_repair_model.specs.Accepted.{mend}
 use Rattle.udf_volume.specs.declared.missing.Missing.{Missing}
 use Rattle.udf_volume.specs.declared.volume.Volume.{Volume}
 use Rattle.udf_volume.specs.Writable.{opened_writable}
@@ -37,7 +38,7 @@ refused_log stop.Memory = outcome.Memory
 
 -- the number of blocks in which the mended image differs
 unfoldable pub written_in : ℕ → List ℕ → ℕ
-written_in size image = length (difference size image (mended size image))
+written_in size image = length (difference size image (mend size image))
 
 -- the outcome of a repair that replayed so many blocks, found these findings, and repairs so many blocks
 abbrev pub repaired_as : ℕ → List Finding → ℕ → Outcome
@@ -81,7 +82,7 @@ repair_said size medium side pair = said_from size medium side (replaying pair) 
 -- The image in which each repair of these files ends, and each chain of stops and repairs that ends: the mended one of what
 -- they stand for, or the image as it is where the side file is no log of it.
 abbrev pub target_by : ℕ → Result ℕ RedoStop → List ℕ → List ℕ → List ℕ
-target_by size (Ok replayed) image found = mended size found
+target_by size (Ok replayed) image found = mend size found
 target_by size (Err why) image found = image
 
 unfoldable pub target : ℕ → Pair → List ℕ

@@ -2,7 +2,8 @@
 use Rattle.std.specs.Prelude.{◌≡◌, ◌⊎◌, ℕ, true, List, ◌++◌, length, Option, Some, Result, Ok, Err}
 use Rattle.udf_outside.specs.declared.bench.Role.TheVariants.{Image, Side}
 use Rattle.udf_outside.specs.Stops.{Held, Pair, bytes_of, IsSettled, LeavesOnly}
-use Rattle.udf_volume_model.specs.Accepted.{mended, plan_of, is_unbroken}
+use Rattle.udf_volume_model.specs.Opened.{plan_of}
+use Rattle.udf_repair_model.specs.Accepted.{mend, is_unbroken}
 use Rattle.udf_volume.specs.declared.missing.LayerStop.{LayerStop}
 use Rattle.udf_volume.specs.declared.missing.LayerStop.TheVariants as stops
 use Rattle.udf_volume.specs.Writable.{opened_writable}
@@ -12,8 +13,8 @@ use Rattle.udf_top.specs.declared.mend.Inspected.{Inspected}
 use Rattle.udf_top.specs.Found.{findings_in}
 use Rattle.udf_top.specs.declared.outcome.Outcome.{Outcome}
 use Rattle.udf_top.specs.Repairing.{mend_of, logged, log_size}
-use Rattle.udf_top.specs.Headline.{HasRepaired, HasOpenedNoGate}
-use Rattle.udf_top.specs.Udffsck.{HasEnded, HoldsFront}
+use Rattle.udf_top.specs.Endings.{HasEnded, HasRepaired, HasOpenedNoGate}
+use Rattle.udf_top.specs.Udffsck.{HoldsFront}
 
 -- while an open log is replayed: the files stand for the settled image, and what the log seals stays
 pub record IsSettling (start pair : Pair) : Type 0 where
@@ -23,17 +24,18 @@ pub record IsSettling (start pair : Pair) : Type 0 where
   pub same_seal : sealed_in (head_in pair.1) pair.0 ≡ sealed_in (head_in pair.1) start.0
   pub same_elsewhere : SameElsewhere (log_size start) (logged start) start.0 pair.0
 
--- while the difference is written: the files stand for the image as it is, or for the mended one, and what the log seals stays
-pub record IsMending (size : ℕ) (image : List ℕ) (pair : Pair) : Type 0 where
+-- while the blocks are written in which an image afterwards differs: the files stand for the image as it is, or for the one
+-- afterwards, and what the log seals stays
+pub record IsMending (size : ℕ) (image after : List ℕ) (pair : Pair) : Type 0 where
   pub goes_on : CanGoOn pair
-  pub stands_for : (settled pair ≡ image) ⊎ (settled pair ≡ mended size image)
+  pub stands_for : (settled pair ≡ image) ⊎ (settled pair ≡ after)
   pub same_length : length pair.0 ≡ length image
   pub same_seal : sealed_in (head_in pair.1) pair.0 ≡ sealed_in (head_in pair.1) image
-  pub same_elsewhere : SameElsewhere size (plan_of size image (mended size image)) image pair.0
+  pub same_elsewhere : SameElsewhere size (plan_of size image after) image pair.0
 
--- the files after the difference was written
-pub record IsMended (size : ℕ) (image : List ℕ) (end : Held) : Type 0 where
-  pub holds : bytes_of Image end ≡ mended size image
+-- the files after they were written
+pub record IsMended (after : List ℕ) (end : Held) : Type 0 where
+  pub holds : bytes_of Image end ≡ after
   pub side : IsFree (bytes_of Side end)
   pub settled : IsSettled end
 
@@ -48,8 +50,8 @@ Inspects size image (Err stops.Memory) = Unit {0}
 -- of it, and when nothing was written.
 pub record Mends (size replayed : ℕ) (old new : Held) (result : Outcome) : Type 0 where
   pub outcome : HasEnded result → result ≡ mend_of size replayed (bytes_of Image old)
-  pub moments : LeavesOnly old new (IsMending size (bytes_of Image old))
-  pub done : HasRepaired result → IsMended size (bytes_of Image old) new
+  pub moments : LeavesOnly old new (IsMending size (bytes_of Image old) (mend size (bytes_of Image old)))
+  pub done : HasRepaired result → IsMended (mend size (bytes_of Image old)) new
   pub unopened : HasOpenedNoGate result → new ≡ old
   pub unbroken : is_unbroken size (bytes_of Image old) ≡ true → new ≡ old
 

@@ -59,21 +59,6 @@ said_by (Ok command) pair = said_beside command.side command.size command.medium
 unfoldable pub output_of : List (List ℕ) → Pair → List ℕ
 output_of words pair = said_by (command_in words) pair
 
--- the run came to its end: no fault and no want of memory
-abbrev pub HasEnded : Outcome → Type 0
-HasEnded outcome.Clean = Unit {0}
-HasEnded (outcome.Repaired replayed written) = Unit {0}
-HasEnded (outcome.Broken findings) = Unit {0}
-HasEnded (outcome.Refused missing) = Unit {0}
-HasEnded (outcome.Usage cause) = Unit {0}
-HasEnded outcome.SameFile = Unit {0}
-HasEnded outcome.NotALog = Unit {0}
-HasEnded outcome.BadLog = Unit {0}
-HasEnded (outcome.WrongImage clash) = Unit {0}
-HasEnded outcome.DeviceFault = ⊥
-HasEnded outcome.OutFault = ⊥
-HasEnded outcome.Memory = ⊥
-
 -- a sink holds what it held and a front of a text
 abbrev pub HoldsFront : Option (List ℕ) → List ℕ → List ℕ → Type 0
 HoldsFront told before text = (k : ℕ) × (told ≡ Some (before ++ take k text))

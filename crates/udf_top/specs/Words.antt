@@ -86,3 +86,12 @@ repair_in words = repair_by (command_in words)
 abbrev pub checks : Result Command Cause → Bool
 checks (Err cause) = false
 checks (Ok command) = is_none command.side
+
+-- the words ask for a repair whose side file has the name of the medium
+abbrev pub names_one_by : Option (List ℕ) → List ℕ → Bool
+names_one_by None medium = false
+names_one_by (Some side) medium = bytes_eq side medium
+
+abbrev pub names_one_file : Result Command Cause → Bool
+names_one_file (Err cause) = false
+names_one_file (Ok command) = names_one_by command.side command.medium

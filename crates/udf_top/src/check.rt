@@ -1,11 +1,14 @@
 //! A check: `udffsck -c`.
-ghost use Rattle.std.specs.Prelude.{◌≡◌, ◌≤◌, ℕ, List, Some, None, IfSome, IsErrOf};
+ghost use Rattle.std.specs.Prelude.{◌≡◌, ◌≤◌, ℕ, List, Some, None, IfSome, IfErr, IsErrOf};
 ghost use Rattle.udf_outside.specs.Stops.{bytes_of};
 ghost use Rattle.udf_outside.specs.Causes.{Rose};
 ghost use Rattle.udf_outside.specs.declared.bench.Role.TheVariants.{Image};
 ghost use Rattle.udf_outside.specs.declared.bench.Access.TheVariants.{Read};
+ghost use Rattle.udf_volume.specs.declared.missing.Missing.{Missing};
+ghost use Rattle.udf_volume.specs.Refusals.{IsOfVolume, RefusesVolume};
 ghost use Rattle.udf_top.specs.declared.outcome.Cause.{Cause};
-ghost use Rattle.udf_top.specs.Udffsck.{check_of, by_findings, HasEnded, Examines};
+ghost use Rattle.udf_top.specs.Endings.{HasEnded};
+ghost use Rattle.udf_top.specs.Udffsck.{check_of, by_findings, Examines};
 
 use crate::rules::check_rules;
 use crate::{Findings, Outcome};
@@ -24,6 +27,7 @@ fn examine<B: Bench>(
     requires image { (B.files bench.old).image.asked ≡ None }
     requires large { 512 ≤ size }
     ensures answers { B.tells → Examines size (bytes_of Image (B.held bench.old)) result }
+    ensures refusal { IfErr result RefusesVolume }
     ensures asked { (B.files bench.new).image.asked ≡ Some Read }
     ensures named { IfSome (B.files bench.new).image.name (λ told. told ≡ medium.now) }
     ensures side { (B.files bench.new).side ≡ (B.files bench.old).side }
@@ -62,6 +66,8 @@ pub(crate) fn check<B: Bench>(alloc: Global, size: u32, medium: &str, bench: &mu
     ensures device { result ≡ Outcome.DeviceFault → Rose (B.faults bench.old) (B.faults bench.new) }
     ensures out { result ≡ Outcome.OutFault → ⊥ }
     ensures usage { (cause : Cause) → result ≡ Outcome.Usage cause → ⊥ }
+    ensures other { result ≡ Outcome.SameFile → ⊥ }
+    ensures refused { (missing : Missing) → result ≡ Outcome.Refused missing → IsOfVolume missing }
 {
     match examine(alloc, size, medium, bench) {
         Ok(findings) => found(findings),

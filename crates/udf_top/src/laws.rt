@@ -2,7 +2,7 @@
 ghost use Rattle.std.specs.Prelude.{◌≡◌, ◌≤◌, ℕ, List, true, false, Ok, is_ok};
 ghost use Rattle.udf_outside.specs.declared.bench.Role.TheVariants.{Image, Side};
 ghost use Rattle.udf_outside.specs.Stops.{Held, Pair, bytes_of, pair_of};
-ghost use Rattle.udf_volume_model.specs.Accepted.{is_accepted, is_unbroken};
+ghost use Rattle.udf_repair_model.specs.Accepted.{is_accepted, is_unbroken};
 ghost use Rattle.udf_volume.specs.Opened.{opened};
 ghost use Rattle.udf_redo.specs.Settled.{settled, IsOpenLog};
 ghost use Rattle.udf_top.specs.Repairing.{replaying, repair_of, target, written_in};

@@ -3,12 +3,14 @@ ghost use Rattle.std.specs.Prelude.{◌≡◌, ◌≤◌, ◌*◌, ◌/◌, ℕ,
 ghost use Rattle.udf_outside.specs.Files.{IsAttached, IsWritable};
 ghost use Rattle.udf_outside.specs.Stops.{bytes_of, IsSettled, LeavesOnly};
 ghost use Rattle.udf_outside.specs.Causes.{Rose};
+ghost use Rattle.udf_outside.specs.Reads.{OnlyReads};
 ghost use Rattle.udf_outside.specs.declared.bench.Role.TheVariants.{Image, Side};
-ghost use Rattle.udf_volume_model.specs.Accepted.{mended, plan_of};
+ghost use Rattle.udf_volume_model.specs.Opened.{plan_of};
+ghost use Rattle.udf_volume_model.specs.Plans.{IsRewrite};
 ghost use Rattle.udf_volume.specs.Laid.{IsLaidOut};
 ghost use Rattle.udf_volume.specs.Opened.{IsBounded};
 ghost use Rattle.udf_volume.specs.Writable.{opened_writable};
-ghost use Rattle.udf_plan.specs.Stated.{IsPlanFor};
+ghost use Rattle.udf_blocks.specs.PlanFor.{IsPlanFor};
 ghost use Rattle.udf_redo.specs.Log.{is_size};
 ghost use Rattle.udf_redo.specs.Settled.{IsFree};
 ghost use Rattle.udf_redo.specs.Faults.{HasFault, OnlyFaultsOrMemory};
@@ -17,10 +19,9 @@ ghost use Rattle.udf_top.specs.declared.outcome.Cause.{Cause};
 ghost use Rattle.udf_top.specs.Found.{findings_in};
 ghost use Rattle.udf_top.specs.Texts.{text_of};
 ghost use Rattle.udf_top.specs.Repairing.{mend_said, repaired_as};
-ghost use Rattle.udf_top.specs.Headline.{HasOpenedNoGate};
+ghost use Rattle.udf_top.specs.Endings.{HasOpenedNoGate, HasEnded};
 ghost use Rattle.udf_top.specs.Steps.{IsMending, IsMended, Inspects, Mends, Says};
 ghost use Rattle.udf_top.specs.Attaching.{KeepsAsked};
-ghost use Rattle.udf_top.specs.Udffsck.{HasEnded};
 
 use crate::rules::check_rules;
 use crate::say::{say, say_mend};
@@ -52,10 +53,7 @@ fn inspect<B: Bench>(
     ensures answers { B.tells → Inspects size (bytes_of Image (B.held bench.old)) result }
     ensures bounds { IfOk result (λ found. IsBounded size (length / size) found.volume) }
     ensures areas { IfOk result (λ found. IsLaidOut found.volume) }
-    ensures files { B.files bench.new ≡ B.files bench.old }
-    ensures held { B.held bench.new ≡ B.held bench.old }
-    ensures later { B.faults bench.old ≤ B.faults bench.new }
-    ensures fault { IsErrOf result LayerStop.Fault → Rose (B.faults bench.old) (B.faults bench.new) }
+    ensures reads { OnlyReads B.files B.held B.faults bench.old bench.new LayerStop.Fault result }
 {
     let volume = open_writable(alloc, bench, size, length)?;
     let findings = check_rules(alloc, bench, &volume)?;
@@ -75,13 +73,14 @@ fn write_plan<B: Bench>(
     requires bounded { IsBounded volume.now.size ((B.files bench.old).image.size / volume.now.size) volume.now }
     requires some { 1 ≤ length plan.now.blocks }
     requires lawful { IsPlanFor volume.now plan.now }
-    requires plan { B.tells → plan.now.blocks ≡ plan_of volume.now.size (bytes_of Image (B.held bench.old))
-        (mended volume.now.size (bytes_of Image (B.held bench.old))) }
     requires free { B.tells → IsFree (bytes_of Side (B.held bench.old)) }
     requires settled { B.tells → IsSettled (B.held bench.old) }
-    ensures moments { B.tells → LeavesOnly (B.held bench.old) (B.held bench.new)
-        (IsMending volume.now.size (bytes_of Image (B.held bench.old))) }
-    ensures done { B.tells → OnOk result (IsMended volume.now.size (bytes_of Image (B.held bench.old)) (B.held bench.new)) }
+    ensures moments { B.tells → (after : List ℕ) → IsRewrite volume.now.size (bytes_of Image (B.held bench.old)) after
+        → plan.now.blocks ≡ plan_of volume.now.size (bytes_of Image (B.held bench.old)) after
+        → LeavesOnly (B.held bench.old) (B.held bench.new) (IsMending volume.now.size (bytes_of Image (B.held bench.old)) after) }
+    ensures done { B.tells → (after : List ℕ) → IsRewrite volume.now.size (bytes_of Image (B.held bench.old)) after
+        → plan.now.blocks ≡ plan_of volume.now.size (bytes_of Image (B.held bench.old)) after
+        → OnOk result (IsMended after (B.held bench.new)) }
     ensures memory { IsErrOf result Memory → B.held bench.new ≡ B.held bench.old }
     ensures only_faults { OnlyFaultsOrMemory result }
     ensures files { KeepsAsked (B.files bench.old) (B.files bench.new) }
@@ -118,14 +117,15 @@ fn write<B: Bench>(
     requires size { is_size volume.now.size ≡ true }
     requires bounded { IsBounded volume.now.size ((B.files bench.old).image.size / volume.now.size) volume.now }
     requires lawful { IsPlanFor volume.now plan.now }
-    requires plan { B.tells → plan.now.blocks ≡ plan_of volume.now.size (bytes_of Image (B.held bench.old))
-        (mended volume.now.size (bytes_of Image (B.held bench.old))) }
     requires free { B.tells → IsFree (bytes_of Side (B.held bench.old)) }
     requires settled { B.tells → IsSettled (B.held bench.old) }
     ensures written { HasEnded result → result ≡ Outcome.Repaired replayed (length plan.now.blocks) }
-    ensures moments { B.tells → LeavesOnly (B.held bench.old) (B.held bench.new)
-        (IsMending volume.now.size (bytes_of Image (B.held bench.old))) }
-    ensures done { B.tells → HasEnded result → IsMended volume.now.size (bytes_of Image (B.held bench.old)) (B.held bench.new) }
+    ensures moments { B.tells → (after : List ℕ) → IsRewrite volume.now.size (bytes_of Image (B.held bench.old)) after
+        → plan.now.blocks ≡ plan_of volume.now.size (bytes_of Image (B.held bench.old)) after
+        → LeavesOnly (B.held bench.old) (B.held bench.new) (IsMending volume.now.size (bytes_of Image (B.held bench.old)) after) }
+    ensures done { B.tells → (after : List ℕ) → IsRewrite volume.now.size (bytes_of Image (B.held bench.old)) after
+        → plan.now.blocks ≡ plan_of volume.now.size (bytes_of Image (B.held bench.old)) after
+        → HasEnded result → IsMended after (B.held bench.new) }
     ensures unopened { HasOpenedNoGate result → B.held bench.new ≡ B.held bench.old }
     ensures files { KeepsAsked (B.files bench.old) (B.files bench.new) }
     ensures device { result ≡ Outcome.DeviceFault → Rose (B.faults bench.old) (B.faults bench.new) }
@@ -169,6 +169,7 @@ fn mend_broken<B: Bench, O: Sink>(
     ensures device { result ≡ Outcome.DeviceFault → Rose (B.faults bench.old) (B.faults bench.new) }
     ensures out { result ≡ Outcome.OutFault → Rose (O.faults out.old) (O.faults out.new) }
     ensures usage { (cause : Cause) → result ≡ Outcome.Usage cause → ⊥ }
+    ensures other { result ≡ Outcome.SameFile → ⊥ }
     ensures files { KeepsAsked (B.files bench.old) (B.files bench.new) }
     ensures later { B.faults bench.old ≤ B.faults bench.new }
     ensures later_out { O.faults out.old ≤ O.faults out.new }
@@ -223,6 +224,7 @@ pub(crate) fn mend<B: Bench, O: Sink>(
     ensures device { result ≡ Outcome.DeviceFault → Rose (B.faults bench.old) (B.faults bench.new) }
     ensures out { result ≡ Outcome.OutFault → Rose (O.faults out.old) (O.faults out.new) }
     ensures usage { (cause : Cause) → result ≡ Outcome.Usage cause → ⊥ }
+    ensures other { result ≡ Outcome.SameFile → ⊥ }
     ensures files { KeepsAsked (B.files bench.old) (B.files bench.new) }
     ensures later { B.faults bench.old ≤ B.faults bench.new }
     ensures later_out { O.faults out.old ≤ O.faults out.new }

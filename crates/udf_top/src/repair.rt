@@ -10,7 +10,7 @@ ghost use Rattle.udf_top.specs.Repairing.{refused_log, repair_of, repair_said};
 ghost use Rattle.udf_top.specs.Headline.{Repairs};
 ghost use Rattle.udf_top.specs.Attaching.{WasAsked};
 ghost use Rattle.udf_top.specs.Steps.{Says};
-ghost use Rattle.udf_top.specs.Udffsck.{HasEnded};
+ghost use Rattle.udf_top.specs.Endings.{HasEnded};
 
 use crate::Outcome;
 use crate::mend::mend;
@@ -25,6 +25,7 @@ fn end_unsettled<O: Sink>(alloc: Global, side: &str, stop: RedoStop, out: &mut O
     ensures ended { HasEnded result → result ≡ refused_log stop }
     ensures said { (before : List ℕ) → O.told out.old ≡ Some before → Says (O.told out.new) before (text_of side.now (refused_log stop)) result }
     ensures device { result ≡ Outcome.DeviceFault → stop ≡ RedoStop.Fault }
+    ensures told { stop ≡ RedoStop.Fault → result ≡ Outcome.DeviceFault }
     ensures out { result ≡ Outcome.OutFault → Rose (O.faults out.old) (O.faults out.new) }
     ensures later { O.faults out.old ≤ O.faults out.new }
 {
@@ -58,6 +59,7 @@ pub(crate) fn repair<B: Bench, O: Sink>(
     ensures device { result ≡ Outcome.DeviceFault → Rose (B.faults bench.old) (B.faults bench.new) }
     ensures out { result ≡ Outcome.OutFault → Rose (O.faults out.old) (O.faults out.new) }
     ensures usage { (cause : Cause) → result ≡ Outcome.Usage cause → ⊥ }
+    ensures other { result ≡ Outcome.SameFile → ⊥ }
     ensures asked { (B.files bench.new).image.asked ≡ Some Write }
     ensures named { IfSome (B.files bench.new).image.name (λ told. told ≡ medium.now) }
     ensures beside { WasAsked side.now (B.files bench.old) (B.files bench.new) }

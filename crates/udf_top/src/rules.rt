@@ -2,7 +2,7 @@
 ghost use Rattle.std.specs.Prelude.{◌≡◌, ◌*◌, ◌≤◌, ◌<◌, ◌^◌, ◌++◌, length, map, IfOk, OnOk, IsErrOf, Ok};
 ghost use Rattle.udf_outside.specs.Files.{IsAttached};
 ghost use Rattle.udf_outside.specs.Stops.{bytes_of};
-ghost use Rattle.udf_outside.specs.Causes.{Rose};
+ghost use Rattle.udf_outside.specs.Reads.{OnlyReads};
 ghost use Rattle.udf_outside.specs.declared.bench.Role.TheVariants.{Image};
 ghost use Rattle.udf_volume.specs.Opened.{opened, IsBounded};
 ghost use Rattle.udf_volume_model.specs.Kept.{whole_by};
@@ -63,10 +63,7 @@ fn check_anchors<B: Bench>(
     requires large { 512 ≤ volume.now.size }
     ensures found { B.tells → OnOk result (findings.new ≡ findings.old
         ++ anchors_reported volume.now (bytes_of Image (B.held bench.old))) }
-    ensures files { B.files bench.new ≡ B.files bench.old }
-    ensures held { B.held bench.new ≡ B.held bench.old }
-    ensures later { B.faults bench.old ≤ B.faults bench.new }
-    ensures fault { IsErrOf result WorkStop.Fault → Rose (B.faults bench.old) (B.faults bench.new) }
+    ensures reads { OnlyReads B.files B.held B.faults bench.old bench.new WorkStop.Fault result }
 {
     let eligible = eligible_places(alloc, volume)?;
     let bad = bad_places(alloc, bench, volume, &eligible, block)?;
@@ -113,10 +110,7 @@ fn check_sequences<B: Bench>(
     requires bounded { IsBounded volume.now.size volume.now.blocks volume.now }
     ensures found { B.tells → OnOk result (findings.new ≡ findings.old
         ++ sequences_reported volume.now (bytes_of Image (B.held bench.old))) }
-    ensures files { B.files bench.new ≡ B.files bench.old }
-    ensures held { B.held bench.new ≡ B.held bench.old }
-    ensures later { B.faults bench.old ≤ B.faults bench.new }
-    ensures fault { IsErrOf result WorkStop.Fault → Rose (B.faults bench.old) (B.faults bench.new) }
+    ensures reads { OnlyReads B.files B.held B.faults bench.old bench.new WorkStop.Fault result }
 {
     let kept = read_sequence(alloc, bench, volume, volume.kept_extent(), block)?;
     let other = read_sequence(alloc, bench, volume, volume.other_extent(), block)?;
@@ -136,10 +130,7 @@ pub(crate) fn check_rules<B: Bench>(
     requires bounded { IsBounded volume.now.size volume.now.blocks volume.now }
     requires opened { B.tells → opened volume.now.size (bytes_of Image (B.held bench.old)) ≡ Ok volume.now }
     ensures found { B.tells → IfOk result (λ f. f ≡ findings_in volume.now.size (bytes_of Image (B.held bench.old))) }
-    ensures files { B.files bench.new ≡ B.files bench.old }
-    ensures held { B.held bench.new ≡ B.held bench.old }
-    ensures later { B.faults bench.old ≤ B.faults bench.new }
-    ensures fault { IsErrOf result WorkStop.Fault → Rose (B.faults bench.old) (B.faults bench.new) }
+    ensures reads { OnlyReads B.files B.held B.faults bench.old bench.new WorkStop.Fault result }
 {
     let mut block = vec![in alloc; 0u8; volume.size as usize]?;
     let mut findings = Findings::none(alloc);

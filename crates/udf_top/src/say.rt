@@ -3,7 +3,8 @@ ghost use Rattle.std.specs.Prelude.{◌≡◌, ◌⊎◌, ◌≤◌, ◌++◌, �
 ghost use Rattle.udf_outside.specs.Causes.{Rose};
 ghost use Rattle.udf_top.specs.declared.say.PutStop.TheVariants as stop;
 ghost use Rattle.udf_top.specs.Texts.{text_of, replayed_text, mend_text};
-ghost use Rattle.udf_top.specs.Udffsck.{HasEnded, HoldsFront};
+ghost use Rattle.udf_top.specs.Endings.{HasEnded};
+ghost use Rattle.udf_top.specs.Udffsck.{HoldsFront};
 
 use crate::text::{mend_lines, replayed_line, text};
 use crate::{Findings, Outcome};

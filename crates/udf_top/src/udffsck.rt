@@ -4,14 +4,17 @@ ghost use Rattle.udf_outside.specs.Stops.{pair_of, IsSettled};
 ghost use Rattle.udf_outside.specs.Causes.{Rose};
 ghost use Rattle.udf_outside.specs.declared.bench.Access.TheVariants.{Read};
 ghost use Rattle.udf_top.specs.declared.outcome.Cause.{Cause};
+ghost use Rattle.udf_volume.specs.declared.missing.Missing.{Missing};
+ghost use Rattle.udf_volume.specs.Refusals.{IsOfVolume};
 ghost use Rattle.udf_redo.specs.Log.{is_size};
-ghost use Rattle.udf_top.specs.Words.{Command, Repair, command_in, repair_in, beside, checks};
+ghost use Rattle.udf_top.specs.Words.{Command, Repair, command_in, repair_in, beside, checks, names_one_by, names_one_file};
 ghost use Rattle.udf_top.specs.Asked.{side_seen};
 ghost use Rattle.udf_top.specs.Texts.{text_of};
 ghost use Rattle.udf_top.specs.Attaching.{AsksFor};
 ghost use Rattle.udf_top.specs.Steps.{Says};
+ghost use Rattle.udf_top.specs.Endings.{HasEnded};
 ghost use Rattle.udf_top.specs.Headline.{Repairs};
-ghost use Rattle.udf_top.specs.Udffsck.{outcome_beside, outcome_of, said_beside, output_of, text_by, HasEnded, HoldsFront};
+ghost use Rattle.udf_top.specs.Udffsck.{outcome_beside, outcome_of, said_beside, output_of, text_by, HoldsFront};
 
 use crate::Outcome;
 use crate::check::check;
@@ -43,6 +46,8 @@ fn repair_beside<B: Bench, O: Sink>(
     ensures device { result ≡ Outcome.DeviceFault → Rose (B.faults bench.old) (B.faults bench.new) }
     ensures out { result ≡ Outcome.OutFault → Rose (O.faults out.old) (O.faults out.new) }
     ensures usage { (cause : Cause) → result ≡ Outcome.Usage cause → ⊥ }
+    ensures same_file { result ≡ Outcome.SameFile → names_one_by (side_seen (Work.Repair named.entry) medium.now) medium.now ≡ true }
+    ensures same_names { names_one_by (side_seen (Work.Repair named.entry) medium.now) medium.now ≡ true → HasEnded result → result ≡ Outcome.SameFile }
     ensures asked { (repair : Repair) → beside (side_seen (Work.Repair named.entry) medium.now) size medium.now ≡ Some repair
         → AsksFor repair result (B.files bench.old) (B.files bench.new) }
     ensures unasked { beside (side_seen (Work.Repair named.entry) medium.now) size medium.now ≡ None → B.files bench.new ≡ B.files bench.old }
@@ -88,6 +93,14 @@ pub fn run_udffsck<B: Bench, O: Sink>(
     // Words that are no command are refused, over every bench, and no other words are.
     ensures usage { (cause : Cause) → result ≡ Outcome.Usage cause → command_in (map string_bytes words.now) ≡ Err cause }
     ensures words { (cause : Cause) → command_in (map string_bytes words.now) ≡ Err cause → HasEnded result → result ≡ Outcome.Usage cause }
+
+    // A repair whose names are equal is refused, over every bench, and nothing else is refused so.
+    ensures same_file { result ≡ Outcome.SameFile → names_one_file (command_in (map string_bytes words.now)) ≡ true }
+    ensures same_names { names_one_file (command_in (map string_bytes words.now)) ≡ true → HasEnded result → result ≡ Outcome.SameFile }
+
+    // A check refuses what the volume's description lacks, over every bench, and nothing else.
+    ensures refused { (missing : Missing) → result ≡ Outcome.Refused missing → checks (command_in (map string_bytes words.now)) ≡ true
+        → IsOfVolume missing }
 
     // Each fault has a cause.
     ensures device { result ≡ Outcome.DeviceFault → Rose (B.faults bench.old) (B.faults bench.new) }

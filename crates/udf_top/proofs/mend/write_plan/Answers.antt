@@ -1,4 +1,4 @@
-use Rattle.std.proofs.Common.{sym, ◌∙◌, ap, subst, List}
+use Rattle.std.proofs.Common.{arith, sym, ◌∙◌, ap, subst, List}
 use Rattle.udf_outside.specs.Stops.{bytes_of}
 use Rattle.udf_outside.specs.declared.bench.Role.TheVariants.{Image, Side}
 use Rattle.udf_volume_model.specs.Plans.{ClimbsFrom}
@@ -12,72 +12,76 @@ use Rattle.udf_top.proofs.Stepping.{logging, IsWritten, until_open, until_put, u
 use Rattle.udf_top.proofs.mend.write_plan.Goals as goal
 
 pub returns-in_err-write_log-clause-moments : goal.returns-in_err-write_log-clause-moments
-returns-in_err-write_log-clause-moments g c tells =
+returns-in_err-write_log-clause-moments g c tells after rewrites is_plan =
     let start = g.B.Bench.held c.args.bench.now in
-    leaves_weaker start _ (IsLogging (bytes_of Image start)) (IsMending c.args.volume.now.size (bytes_of Image start))
-    (logging c.args.volume.now.size (bytes_of Image start)) (c.write_log.ensures.moments tells)
+    leaves_weaker start _ (IsLogging (bytes_of Image start)) (IsMending c.args.volume.now.size (bytes_of Image start) after)
+    (logging c.args.volume.now.size (bytes_of Image start) after) (c.write_log.ensures.moments tells)
 
 pub returns-in_err-open_gate-clause-moments : goal.returns-in_err-open_gate-clause-moments
-returns-in_err-open_gate-clause-moments g c tells =
+returns-in_err-open_gate-clause-moments g c tells after rewrites is_plan =
     let start = g.B.Bench.held c.args.bench.now in
     let logged = g.B.Bench.held c.write_log.new.bench in
     let records = c.in_ok-write_log.ensures.records tells in
-    let is : IsWritten c.args.volume.now.size (bytes_of Image start) (bytes_of Side logged) = record {
-      large = (size_cases c.args.volume.now.size c.requires.size).0;
+    let is : IsWritten c.args.volume.now.size (bytes_of Image start) after (bytes_of Side logged) = record {
+      some = omega (arith, (size_cases c.args.volume.now.size c.requires.size).0);
+      rewrites = rewrites;
       log = c.in_ok-write_log.ensures.log tells;
       size_is = ap (λ (h : LogHead). h.size) (c.in_ok-write_log.ensures.head tells);
-      records = records ∙ c.requires.plan tells;
+      records = records ∙ is_plan;
       up = subst (λ (edits : List Edit). ClimbsFrom 0 edits) (sym records) c.requires.lawful.lawful.ascends;
     } in
-    until_open c.args.volume.now.size start logged is (c.write_log.ensures.image tells) (c.write_log.ensures.moments tells)
+    until_open c.args.volume.now.size after start logged is (c.write_log.ensures.image tells) (c.write_log.ensures.moments tells)
     (g.B.Bench.held c.open_gate.new.bench) (c.open_gate.ensures.moments tells)
 
 pub returns-in_err-apply-clause-moments : goal.returns-in_err-apply-clause-moments
-returns-in_err-apply-clause-moments g c tells =
+returns-in_err-apply-clause-moments g c tells after rewrites is_plan =
     let start = g.B.Bench.held c.args.bench.now in
     let logged = g.B.Bench.held c.write_log.new.bench in
     let records = c.in_ok-write_log.ensures.records tells in
-    let is : IsWritten c.args.volume.now.size (bytes_of Image start) (bytes_of Side logged) = record {
-      large = (size_cases c.args.volume.now.size c.requires.size).0;
+    let is : IsWritten c.args.volume.now.size (bytes_of Image start) after (bytes_of Side logged) = record {
+      some = omega (arith, (size_cases c.args.volume.now.size c.requires.size).0);
+      rewrites = rewrites;
       log = c.in_ok-write_log.ensures.log tells;
       size_is = ap (λ (h : LogHead). h.size) (c.in_ok-write_log.ensures.head tells);
-      records = records ∙ c.requires.plan tells;
+      records = records ∙ is_plan;
       up = subst (λ (edits : List Edit). ClimbsFrom 0 edits) (sym records) c.requires.lawful.lawful.ascends;
     } in
-    until_put c.args.volume.now.size start logged is (c.write_log.ensures.image tells) (c.write_log.ensures.moments tells)
+    until_put c.args.volume.now.size after start logged is (c.write_log.ensures.image tells) (c.write_log.ensures.moments tells)
     (g.B.Bench.held c.open_gate.new.bench) (c.in_ok-open_gate.ensures.side tells) (c.open_gate.ensures.image tells) (c.open_gate.ensures.moments tells)
     (g.B.Bench.held c.apply.new.bench) (c.apply.ensures.moments tells)
 
 pub returns-clause-moments : goal.returns-clause-moments
-returns-clause-moments g c tells =
+returns-clause-moments g c tells after rewrites is_plan =
     let start = g.B.Bench.held c.args.bench.now in
     let logged = g.B.Bench.held c.write_log.new.bench in
     let records = c.in_ok-write_log.ensures.records tells in
-    let is : IsWritten c.args.volume.now.size (bytes_of Image start) (bytes_of Side logged) = record {
-      large = (size_cases c.args.volume.now.size c.requires.size).0;
+    let is : IsWritten c.args.volume.now.size (bytes_of Image start) after (bytes_of Side logged) = record {
+      some = omega (arith, (size_cases c.args.volume.now.size c.requires.size).0);
+      rewrites = rewrites;
       log = c.in_ok-write_log.ensures.log tells;
       size_is = ap (λ (h : LogHead). h.size) (c.in_ok-write_log.ensures.head tells);
-      records = records ∙ c.requires.plan tells;
+      records = records ∙ is_plan;
       up = subst (λ (edits : List Edit). ClimbsFrom 0 edits) (sym records) c.requires.lawful.lawful.ascends;
     } in
-    until_closed c.args.volume.now.size start logged is (c.write_log.ensures.image tells) (c.write_log.ensures.moments tells)
+    until_closed c.args.volume.now.size after start logged is (c.write_log.ensures.image tells) (c.write_log.ensures.moments tells)
     (g.B.Bench.held c.open_gate.new.bench) (c.in_ok-open_gate.ensures.side tells) (c.open_gate.ensures.image tells) (c.open_gate.ensures.moments tells)
     (g.B.Bench.held c.apply.new.bench) (g.B.Bench.held c.close_gate.new.bench) (c.apply.ensures.moments tells) (c.in_ok-apply.ensures.image tells) (c.close_gate.ensures.moments tells)
 
 pub returns-clause-done : goal.returns-clause-done
-returns-clause-done g c tells =
+returns-clause-done g c tells after rewrites is_plan =
     let start = g.B.Bench.held c.args.bench.now in
     let logged = g.B.Bench.held c.write_log.new.bench in
     let records = c.in_ok-write_log.ensures.records tells in
-    let is : IsWritten c.args.volume.now.size (bytes_of Image start) (bytes_of Side logged) = record {
-      large = (size_cases c.args.volume.now.size c.requires.size).0;
+    let is : IsWritten c.args.volume.now.size (bytes_of Image start) after (bytes_of Side logged) = record {
+      some = omega (arith, (size_cases c.args.volume.now.size c.requires.size).0);
+      rewrites = rewrites;
       log = c.in_ok-write_log.ensures.log tells;
       size_is = ap (λ (h : LogHead). h.size) (c.in_ok-write_log.ensures.head tells);
-      records = records ∙ c.requires.plan tells;
+      records = records ∙ is_plan;
       up = subst (λ (edits : List Edit). ClimbsFrom 0 edits) (sym records) c.requires.lawful.lawful.ascends;
     } in
-    let applied = open_applied c.args.volume.now.size start logged is (c.write_log.ensures.image tells) (c.write_log.ensures.moments tells)
+    let applied = open_applied c.args.volume.now.size after start logged is (c.write_log.ensures.image tells) (c.write_log.ensures.moments tells)
     (g.B.Bench.held c.open_gate.new.bench) (c.in_ok-open_gate.ensures.side tells) (c.open_gate.ensures.image tells) (c.open_gate.ensures.moments tells) in
-    done_on c.close_gate.result c.args.volume.now.size (bytes_of Image start) (g.B.Bench.held c.close_gate.new.bench)
+    done_on c.close_gate.result after (g.B.Bench.held c.close_gate.new.bench)
     (c.close_gate.ensures.image tells ∙ c.in_ok-apply.ensures.image tells ∙ applied)
     (c.close_gate.ensures.closed tells) (c.close_gate.ensures.settled tells)

@@ -1,5 +1,6 @@
-use Rattle.std.proofs.Common.{◌++◌, sym, ◌∙◌, ap, subst, List, ℕ, Err}
+use Rattle.std.proofs.Common.{inr, ◌++◌, sym, ◌∙◌, ap, subst, List, ℕ, Err}
 use Rattle.udf_outside.specs.Stops.{Held, pair_of, LeavesOnly, IsSettled}
+use Rattle.udf_redo.specs.declared.stop.RedoStop.{RedoStop}
 use Rattle.udf_redo.specs.Faults.{Answers}
 use Rattle.udf_redo.specs.Settled.{settled, CanGoOn}
 use Rattle.udf_top.specs.Texts.{replayed_text}
@@ -15,7 +16,7 @@ pub returns-in_default-clause-repairs : goal.returns-in_default-clause-repairs
 returns-in_default-clause-repairs g c tells =
     let old = g.B.Bench.held c.args.bench.now in
     let middle = g.B.Bench.held c.attach_files.new.bench in
-    ends.repairs_failed c.args.size old middle (unbegun c.args.size old middle (c.requires.settled tells) c.attach_files.ensures.held) outcome.DeviceFault (λ ended. ended)
+    ends.repairs_failed c.args.size old middle (unbegun c.args.size old middle (c.requires.settled tells) c.attach_files.ensures.held) outcome.DeviceFault (λ ended. ended) (λ none. absurd none)
 
 pub returns-in-Err-clause-outcome : goal.returns-in-Err-clause-outcome
 returns-in-Err-clause-outcome g c tells =
@@ -47,6 +48,7 @@ returns-in-Err-clause-repairs g c tells =
     (begun c.args.size _ middle (subst (λ (h : Held). IsSettled h) (sym attached) (c.requires.settled tells)) (c.settle.ensures.moments tells) (c.settle.ensures.still tells)) in
     let answers : Answers {T = ℕ} (replaying (pair_of old)) (Err c.in-Err.stop) = subst (λ (h : Held). Answers {T = ℕ} (replaying (pair_of h)) (Err c.in-Err.stop)) attached (c.in-Err.ensures.answer tells) in
     ends.repairs_unsettled c.args.size old middle has c.end_unsettled.result c.in-Err.stop answers c.end_unsettled.ensures.ended
+    c.end_unsettled.ensures.told (λ e. c.in-Err.ensures.memory (ap (λ (w : RedoStop). Err w) e) ∙ attached)
 
 pub returns-in-Err-say_replayed-clause-said : goal.returns-in-Err-say_replayed-clause-said
 returns-in-Err-say_replayed-clause-said g c tells before told =
@@ -66,7 +68,9 @@ returns-in-Err-say_replayed-clause-repairs g c tells =
     let attached = c.attach_files.ensures.held in
     let has : HasBegun c.args.size old middle = subst (λ (h : Held). HasBegun c.args.size h middle) attached
     (begun c.args.size _ middle (subst (λ (h : Held). IsSettled h) (sym attached) (c.requires.settled tells)) (c.settle.ensures.moments tells) (c.settle.ensures.still tells)) in
+    let image_is = c.in-Ok-settle.ensures.image tells ∙ ap (λ (h : Held). settled (pair_of h)) attached in
     ends.repairs_failed c.args.size old middle has c.outcome.result c.outcome.ensures.failed
+    (λ none. inr (record { holds = image_is; side = c.in-Ok-settle.ensures.free tells; settled = c.in-Ok-settle.ensures.settled tells }))
 
 pub returns-clause-outcome : goal.returns-clause-outcome
 returns-clause-outcome g c tells =

@@ -10,7 +10,7 @@ pub returns-clause-found : goal.returns-clause-found
 returns-clause-found g c = λ tells.
     let image = bytes_of Image (g.B.Bench.held c.args.bench.now) in
     c.in_ok-check_sequences.ensures.found tells
-    ∙ ap (λ (h : Held). c.check_anchors.new.findings ++ sequences_reported c.args.volume.now (bytes_of Image h)) c.in_ok-check_anchors.ensures.held
+    ∙ ap (λ (h : Held). c.check_anchors.new.findings ++ sequences_reported c.args.volume.now (bytes_of Image h)) c.in_ok-check_anchors.ensures.reads.held
     ∙ ap (λ (l : List Finding). l ++ sequences_reported c.args.volume.now image)
     (c.in_ok-check_anchors.ensures.found tells
     ∙ ap (λ (l : List Finding). l ++ anchors_reported c.args.volume.now image) c.none-findings.ensures)

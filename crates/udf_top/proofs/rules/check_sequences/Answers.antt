@@ -16,8 +16,8 @@ returns-clause-found g c = λ tells.
     (sequences_from c.args.volume.now image _ _ _
     (c.in_ok-kept.ensures.front tells ∙ ap (λ (e : Span). front_of (said_in size image e)) c.kept_extent.ensures)
     (c.in_ok-other.ensures.front tells
-    ∙ ap (λ (h : Held). front_of (said_in size (bytes_of Image h) c.other_extent.result)) c.in_ok-kept.ensures.held
+    ∙ ap (λ (h : Held). front_of (said_in size (bytes_of Image h) c.other_extent.result)) c.in_ok-kept.ensures.reads.held
     ∙ ap (λ (e : Span). front_of (said_in size image e)) c.other_extent.ensures)
     (c.in_ok-other.ensures.spoilt tells
-    ∙ ap (λ (h : Held). is_spoilt (said_in size (bytes_of Image h) c.other_extent.result)) c.in_ok-kept.ensures.held
+    ∙ ap (λ (h : Held). is_spoilt (said_in size (bytes_of Image h) c.other_extent.result)) c.in_ok-kept.ensures.reads.held
     ∙ ap (λ (e : Span). is_spoilt (said_in size image e)) c.other_extent.ensures))

@@ -1,4 +1,4 @@
-use Rattle.std.proofs.Common.{refl, sym}
+use Rattle.std.proofs.Common.{inl, refl, sym}
 use Rattle.udf_top.specs.declared.outcome.Outcome.TheVariants as outcome
 use Rattle.udf_top.proofs.Safe.{unbegun}
 use Rattle.udf_top.proofs.Said.{says_same}
@@ -8,7 +8,7 @@ use Rattle.udf_top.proofs.udffsck.repair_beside.Goals as goal
 pub returns-in_default-clause-repairs : goal.returns-in_default-clause-repairs
 returns-in_default-clause-repairs g c tells repair is =
     let old = g.B.Bench.held c.args.bench.now in
-    repairs_failed repair.size old old (unbegun repair.size old old (c.requires.settled tells) refl) outcome.Memory (λ ended. ended)
+    repairs_failed repair.size old old (unbegun repair.size old old (c.requires.settled tells) refl) outcome.Memory (λ ended. ended) (λ none. inl refl)
 
 pub returns-clause-said : goal.returns-clause-said
 returns-clause-said g c tells before told =

@@ -3,7 +3,8 @@ use Rattle.udf_outside.specs.Stops.{pair_of}
 use Rattle.udf_top.specs.declared.words.Work.{Work}
 use Rattle.udf_top.specs.Asked.{side_seen}
 use Rattle.udf_top.specs.Texts.{text_of}
-use Rattle.udf_top.specs.Udffsck.{HasEnded, HoldsFront}
+use Rattle.udf_top.specs.Endings.{HasEnded}
+use Rattle.udf_top.specs.Udffsck.{HoldsFront}
 use Rattle.udf_top.proofs.Commanded as commanded
 use Rattle.udf_top.proofs.udffsck.run_udffsck.Goals as goal
 
