@@ -1,7 +1,7 @@
 -- What is added to a plan of the image's volume is exactly the difference of the mended image.
-use Rattle.std.proofs.Common.{◌≡◌, ◌⊎◌, inl, inr, ℕ, suc, ◌+◌, ◌-◌, ◌<◌, ◌≤◌, arith, refl, sym, ◌∙◌, ap, List, [], ◌∷◌, ◌++◌, length, map, Bool, true, false, cond, not, ◌&&◌, ◌||◌, eqb, leb, ltb, Option, Some, None}
+use Rattle.std.proofs.Common.{◌≡◌, ◌⊎◌, inl, inr, ℕ, ◌+◌, ◌-◌, ◌<◌, ◌≤◌, arith, refl, sym, ◌∙◌, ap, List, [], ◌∷◌, ◌++◌, length, map, Bool, true, false, cond, not, ◌||◌, eqb, leb, ltb, Option, Some, None}
 use Rattle.std.specs.Prelude.{option_map}
-use Rattle.std.specs.List.{list_all, filter, range_with_len}
+use Rattle.std.specs.List.{filter, range_with_len}
 use Rattle.std.specs.Str.{bytes_eq}
 use Rattle.std.proofs.lemmas.Bool.{cases_Bool, cases_lt, cases_eq, le-leb, lt-ltb, eq-eqb, ne_eqb}
 use Rattle.udf_model.specs.Tag.{relocated}
@@ -27,9 +27,11 @@ use Rattle.udf_volume.specs.Spans.{kept_span, other_span, limit_stated}
 use Rattle.udf_volume.specs.Opened.{volume_by}
 use Rattle.udf_volume.specs.declared.volume.Volume.{Volume}
 use Rattle.udf_volume.proofs.KeptList.{kept_front}
+use Rattle.udf_volume.proofs.Parted.{parted, none_fails}
 use Rattle.udf_volume.proofs.Described.{Describes, size_is, blocks_is, anchor_is, limit_is, areas_is, kept_is, other_is}
 use Rattle.udf_plan.specs.Changes.{changes, anchor_after, copy_after, block_at, to_mend}
-use Rattle.udf_plan.specs.Stated.{kept_list, other_agrees, logical_sector, copied, ended, sequence_changes, eligible_stated, bad_stated, all_changes}
+use Rattle.udf_volume.specs.Eligible.{eligible_stated, bad_stated}
+use Rattle.udf_plan.specs.Stated.{kept_list, other_agrees, logical_sector, copied, ended, sequence_changes, all_changes}
 use Rattle.udf_plan.proofs.Changing.{changes_both, same_after}
 use Rattle.udf_plan.proofs.Wanted.{place_final, copy_final, end_final, off_final}
 
@@ -111,24 +113,6 @@ changes_alike disk after next (x ∷ xs) h =
     ∙ ap (λ head. head ++ changes disk after xs) (same_after disk after next x (h x (inl refl)))
     ∙ ap (λ tail. changes disk next (x ∷ []) ++ tail) (changes_alike disk after next xs (λ n i. h n (inr i)))
     ∙ sym (changes_both disk next (x ∷ []) xs)
-
--- a test parts a list in two
-pub parted : (test : ℕ → Bool) (xs : List ℕ) → length (filter test xs) + length (filter (λ x. not (test x)) xs) ≡ length xs
-parted test [] = refl
-parted test (x ∷ xs) = by_test (test x) (parted test xs) where
-  by_test : (b : Bool) → length (filter test xs) + length (filter (λ x. not (test x)) xs) ≡ length xs
-      → length (cond b (x ∷ filter test xs) (filter test xs)) + length (cond (not b) (x ∷ filter (λ x. not (test x)) xs) (filter (λ x. not (test x)) xs)) ≡ suc (length xs)
-  by_test true e = omega (arith, e)
-  by_test false e = omega (arith, e)
-
--- a test fails for none exactly where it passes for all
-pub none_fails : (test : ℕ → Bool) (xs : List ℕ) → list_all test xs ≡ eqb (length (filter (λ x. not (test x)) xs)) 0
-none_fails test [] = refl
-none_fails test (x ∷ xs) = by_test (test x) (none_fails test xs) where
-  by_test : (b : Bool) → list_all test xs ≡ eqb (length (filter (λ x. not (test x)) xs)) 0
-      → (b && list_all test xs) ≡ eqb (length (cond (not b) (x ∷ filter (λ x. not (test x)) xs) (filter (λ x. not (test x)) xs))) 0
-  by_test true e = e
-  by_test false e = grind arith
 
 by_option : (disk : ℕ → List ℕ) (start : ℕ) (index : Option ℕ) → block_at disk (option_map (λ i. start + i) index) ≡ block_by disk start index
 by_option disk start None = refl

@@ -20,7 +20,8 @@ use Rattle.udf_volume.specs.declared.volume.Which.TheVariants.{Main, Reserve}
 use Rattle.udf_blocks.specs.Planned.{are_at, are_below}
 use Rattle.udf_plan.specs.Changes.{KeepsTo, AscendFrom, to_mend}
 use Rattle.udf_blocks.specs.PlanFor.{sealed_stated}
-use Rattle.udf_plan.specs.Stated.{eligible_stated, AreRuled}
+use Rattle.udf_volume.specs.Eligible.{eligible_stated}
+use Rattle.udf_plan.specs.Stated.{AreRuled}
 use Rattle.udf_plan.proofs.Rooms.{fits, room}
 
 -- lists and tests

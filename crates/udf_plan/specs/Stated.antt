@@ -1,12 +1,12 @@
 -- What the mends of the rules on anchors and sequences write, by the fields of a volume.
-use Rattle.std.specs.Prelude.{◌≡◌, ℕ, Bool, true, not, Option, ◌+◌, ◌<◌, nat_lt, nat_le, if◌then◌else◌, List, [], ◌∷◌, ◌++◌, filter, option_map}
+use Rattle.std.specs.Prelude.{◌≡◌, ℕ, Bool, true, Option, ◌+◌, ◌<◌, nat_lt, nat_le, if◌then◌else◌, List, [], ◌∷◌, ◌++◌, filter, option_map}
 use Rattle.std.specs.List.{All, list_all, range_with_len}
 use Rattle.udf_model.specs.Image.{block_of}
 use Rattle.udf_volume_model.specs.Sequence.{Descriptor, front_of}
 use Rattle.udf_volume_model.specs.Prevailing.{prevailing_index}
 use Rattle.udf_volume_model.specs.Kept.{sequence_at}
-use Rattle.udf_volume_model.specs.Areas.{Area, covers, is_outside}
-use Rattle.udf_volume_model.specs.Rules.{agrees, ascending_places, is_eligible, is_good}
+use Rattle.udf_volume_model.specs.Areas.{is_outside}
+use Rattle.udf_volume_model.specs.Rules.{agrees}
 use Rattle.udf_volume_model.specs.Mended.{end_block}
 use Rattle.udf_volume.specs.Seen.{extent_seen}
 use Rattle.udf_volume.specs.Areas.{anchor_stated, areas_stated}
@@ -45,14 +45,6 @@ unfoldable pub sequence_changes : Volume → List ℕ → List (ℕ × List ℕ)
 sequence_changes volume image =
     if other_agrees volume image then []
     else copied volume image ++ ended volume (logical_sector volume (kept_list volume image)) image
-
--- the ruled places of a volume, and those that hold no good anchor
-abbrev pub eligible_stated : Volume → List ℕ
-eligible_stated volume = filter (is_eligible (areas_stated volume)) (ascending_places volume.blocks)
-
-abbrev pub bad_stated : Volume → List ℕ → List ℕ
-bad_stated volume image =
-    filter (λ place. not (is_good (anchor_stated volume) place (block_of volume.size image place))) (eligible_stated volume)
 
 -- what the mends of these places and of the sequence add, in ascending order of sectors
 unfoldable pub all_changes : Volume → List ℕ → List ℕ → List ℕ → List (ℕ × List ℕ)

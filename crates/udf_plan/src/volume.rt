@@ -13,7 +13,8 @@ ghost use Rattle.udf_volume.specs.Opened.{opened, IsBounded};
 ghost use Rattle.udf_blocks.specs.Planned.{are_at, are_below};
 ghost use Rattle.udf_plan.specs.Changes.{to_mend};
 ghost use Rattle.udf_blocks.specs.PlanFor.{sealed_stated, IsPlanFor};
-ghost use Rattle.udf_plan.specs.Stated.{eligible_stated, bad_stated, all_changes, AreRuled};
+ghost use Rattle.udf_volume.specs.Eligible.{eligible_stated, bad_stated};
+ghost use Rattle.udf_plan.specs.Stated.{all_changes, AreRuled};
 
 use crate::anchors::{add_anchors, places_to_mend};
 use crate::sequence::add_sequence;

@@ -10,9 +10,9 @@ use Rattle.udf_volume.proofs.Described.{opened_ok}
 use Rattle.udf_redo.specs.declared.stop.RedoStop.{RedoStop}
 use Rattle.udf_redo.specs.declared.stop.RedoStop.TheVariants as stop
 use Rattle.udf_redo.specs.Settled.{settled}
-use Rattle.udf_top.specs.declared.finding.Finding.{Finding}
+use Rattle.udf_rules.specs.declared.finding.Finding.{Finding}
 use Rattle.udf_top.specs.declared.outcome.Outcome.TheVariants as outcome
-use Rattle.udf_top.specs.Found.{findings_in}
+use Rattle.udf_rules.specs.Found.{findings_in}
 use Rattle.udf_top.specs.Repairing.{replaying, refused_log, repaired_as, mend_of, repair_from, repair_of, written_in}
 use Rattle.udf_top.specs.Udffsck.{by_findings, by_opened, check_of}
 use Rattle.udf_top.proofs.Mending.{accepted_ok, not_accepted, mend_ok, mend_refused, none_found, none_unbroken_image, unbroken_finds_none}

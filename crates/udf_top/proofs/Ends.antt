@@ -14,10 +14,10 @@ use Rattle.udf_redo.specs.declared.stop.RedoStop.{RedoStop}
 use Rattle.udf_redo.specs.declared.stop.RedoStop.TheVariants as stop
 use Rattle.udf_redo.specs.Settled.{settled, IsFree, CanGoOn}
 use Rattle.udf_redo.specs.Faults.{Answers}
-use Rattle.udf_top.specs.declared.finding.Finding.{Finding}
+use Rattle.udf_rules.specs.declared.finding.Finding.{Finding}
 use Rattle.udf_top.specs.declared.outcome.Outcome.{Outcome}
 use Rattle.udf_top.specs.declared.outcome.Outcome.TheVariants as outcome
-use Rattle.udf_top.specs.Found.{findings_in}
+use Rattle.udf_rules.specs.Found.{findings_in}
 use Rattle.udf_top.specs.Texts.{text_of, replayed_text}
 use Rattle.udf_top.specs.Repairing.{replaying, refused_log, repaired_as, mend_of, mend_said, written_in, repair_from, repair_of, said_from, repair_said}
 use Rattle.udf_top.specs.Endings.{Ending, Mended, Told, DeviceFailed, Failed, ending_of, IsEnd, IsMendedOrFailed, IsUnopened, HasEnded, HasRepaired, HasRepairedOrFailed, HasOpenedNoGate}

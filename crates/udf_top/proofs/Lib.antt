@@ -1,5 +1,4 @@
 pub mod LineLists
-pub mod Reported
 pub mod Outcomes
 pub mod Stepping
 pub mod Settling

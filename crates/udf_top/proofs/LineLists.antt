@@ -4,8 +4,8 @@ use Rattle.std.specs.Prelude.{flat_map, slice_get}
 use Rattle.std.proofs.lemmas.List.{append-nil, take_all, take_more}
 use Rattle.std.proofs.lemmas.Option.{slice_get_within, get_or_from_slice_get}
 use Rattle.std.proofs.lemmas.Grind.{flat_map-append}
-use Rattle.udf_top.specs.declared.finding.Finding.{Finding}
-use Rattle.udf_top.specs.Lines.{line_of, lines_of}
+use Rattle.udf_rules.specs.declared.finding.Finding.{Finding}
+use Rattle.udf_rules.specs.Lines.{line_of, lines_of}
 
 pub none : (text : List ℕ) (findings : List Finding) → text ≡ text ++ lines_of (take 0 findings)
 unfolding lines_of

@@ -27,10 +27,10 @@ use Rattle.udf_repair_model.proofs.Repair.{accepted_is}
 use Rattle.udf_redo.specs.Log.{is_size}
 use Rattle.udf_redo.specs.Settled.{IsFree}
 use Rattle.udf_redo.proofs.Logged.{size_cases}
-use Rattle.udf_top.specs.declared.finding.Finding.{Finding}
+use Rattle.udf_rules.specs.declared.finding.Finding.{Finding}
 use Rattle.udf_top.specs.declared.outcome.Outcome.{Outcome}
 use Rattle.udf_top.specs.declared.outcome.Outcome.TheVariants as outcome
-use Rattle.udf_top.specs.Found.{finding_of, findings_by, findings_in}
+use Rattle.udf_rules.specs.Found.{finding_of, findings_by, findings_in}
 use Rattle.udf_top.specs.Texts.{text_of, mend_text}
 use Rattle.udf_top.specs.Repairing.{repaired_as, mend_by, mend_of, written_in, text_by_volume, mend_said}
 use Rattle.udf_top.specs.Endings.{Ending, Mended, Told, DeviceFailed, Failed, ending_of, IsEnd, IsMendedEnd, HasEnded, HasRepaired, HasOpenedNoGate}

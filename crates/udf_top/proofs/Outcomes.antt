@@ -5,9 +5,9 @@ use Rattle.std.proofs.lemmas.Nat.{div-add-mod'}
 use Rattle.udf_volume.specs.declared.missing.Missing.{Missing}
 use Rattle.udf_volume.specs.declared.volume.Volume.{Volume}
 use Rattle.udf_volume.specs.Opened.{opened}
-use Rattle.udf_top.specs.declared.finding.Finding.{Finding}
+use Rattle.udf_rules.specs.declared.finding.Finding.{Finding}
 use Rattle.udf_top.specs.declared.outcome.Outcome.TheVariants as outcome
-use Rattle.udf_top.specs.Found.{findings_in}
+use Rattle.udf_rules.specs.Found.{findings_in}
 use Rattle.udf_top.specs.Texts.{replayed_text}
 use Rattle.udf_top.specs.Udffsck.{by_findings, by_opened, check_of, HoldsFront}
 

@@ -1,11 +1,8 @@
 pub mod Endings
 pub mod Status
-pub mod Lines
 pub mod Words
 pub mod Asked
 pub mod Texts
-pub mod Found
-pub mod Reported
 pub mod Attaching
 pub mod Repairing
 pub mod Headline

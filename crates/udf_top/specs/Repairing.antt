@@ -12,10 +12,10 @@ use Rattle.udf_redo.specs.declared.stop.RedoStop.{RedoStop}
 use Rattle.udf_redo.specs.declared.stop.RedoStop.TheVariants as stop
 use Rattle.udf_redo.specs.Log.{Edit, head_in, records_of, state_of, is_log_of}
 use Rattle.udf_redo.specs.Settled.{settled, replay_answer}
-use Rattle.udf_top.specs.declared.finding.Finding.{Finding}
+use Rattle.udf_rules.specs.declared.finding.Finding.{Finding}
 use Rattle.udf_top.specs.declared.outcome.Outcome.{Outcome}
 use Rattle.udf_top.specs.declared.outcome.Outcome.TheVariants as outcome
-use Rattle.udf_top.specs.Found.{findings_in}
+use Rattle.udf_rules.specs.Found.{findings_in}
 use Rattle.udf_top.specs.Texts.{text_of, replayed_text, mend_text}
 
 -- how many blocks of an open log of the image are to be replayed, or why the side file is no log of it

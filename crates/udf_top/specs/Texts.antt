@@ -4,10 +4,10 @@ use Rattle.udf_volume.specs.declared.missing.Missing.{Missing}
 use Rattle.udf_volume.specs.declared.missing.Missing.TheVariants as missing
 use Rattle.udf_volume.specs.declared.missing.ProfileItem.{ProfileItem}
 use Rattle.udf_volume.specs.declared.missing.ProfileItem.TheVariants as item
-use Rattle.udf_top.specs.declared.finding.Finding.{Finding}
+use Rattle.udf_rules.specs.declared.finding.Finding.{Finding}
 use Rattle.udf_top.specs.declared.outcome.Outcome.{Outcome}
 use Rattle.udf_top.specs.declared.outcome.Outcome.TheVariants as outcome
-use Rattle.udf_top.specs.Lines.{lines_of}
+use Rattle.udf_rules.specs.Lines.{lines_of}
 
 abbrev pub item_name : ProfileItem → List ℕ
 item_name item.BlockSize = codes "BlockSize"

@@ -7,12 +7,12 @@ use Rattle.udf_volume.specs.declared.missing.LayerStop.{LayerStop}
 use Rattle.udf_volume.specs.declared.missing.LayerStop.TheVariants as stops
 use Rattle.udf_volume.specs.declared.volume.Volume.{Volume}
 use Rattle.udf_volume.specs.Opened.{opened}
-use Rattle.udf_top.specs.declared.finding.Finding.{Finding}
+use Rattle.udf_rules.specs.declared.finding.Finding.{Finding}
 use Rattle.udf_top.specs.declared.outcome.Outcome.{Outcome}
 use Rattle.udf_top.specs.declared.outcome.Outcome.TheVariants as outcome
 use Rattle.udf_top.specs.declared.outcome.Cause.{Cause}
 use Rattle.udf_top.specs.Words.{Command, command_in}
-use Rattle.udf_top.specs.Found.{findings_in}
+use Rattle.udf_rules.specs.Found.{findings_in}
 use Rattle.udf_top.specs.Texts.{text_of}
 use Rattle.udf_top.specs.Repairing.{repair_of, repair_said}
 

@@ -10,10 +10,10 @@ ghost use Rattle.udf_top.specs.declared.outcome.Cause.{Cause};
 ghost use Rattle.udf_top.specs.Endings.{HasEnded};
 ghost use Rattle.udf_top.specs.Udffsck.{check_of, by_findings, Examines};
 
-use crate::rules::check_rules;
 use crate::{Findings, Outcome};
 use std::alloc::Global;
 use udf_outside::{Access, Bench, Role};
+use udf_rules::check_volume;
 use udf_volume::{LayerStop, open_volume};
 
 // Reads what a check needs, and answers what breaks the rules.
@@ -38,7 +38,7 @@ fn examine<B: Bench>(
     bench.attach(Role::Image, medium, Access::Read)?;
     let length = bench.length(Role::Image)?;
     let volume = open_volume(alloc, bench, size, length)?;
-    let findings = check_rules(alloc, bench, &volume)?;
+    let findings = check_volume(alloc, bench, &volume)?;
     Ok(findings)
 }
 

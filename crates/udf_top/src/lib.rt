@@ -5,23 +5,19 @@
 #![tactic(auto)]
 
 mod check;
-mod finding;
 mod laws;
 mod mend;
 mod outcome;
 mod repair;
-mod report;
-mod rules;
 mod say;
 mod settle;
 mod text;
 mod udffsck;
 mod words;
 
-pub use finding::{Finding, Findings, Place};
 pub use laws::{chain_law, clean_law, rerun_law};
 pub use outcome::{Cause, Outcome, status};
-pub use report::report_line;
+pub use udf_rules::{Finding, Findings, Place, report_line};
 pub use udffsck::run_udffsck;
 
 #[cfg(test)]

@@ -16,20 +16,20 @@ ghost use Rattle.udf_redo.specs.Settled.{IsFree};
 ghost use Rattle.udf_redo.specs.Faults.{HasFault, OnlyFaultsOrMemory};
 ghost use Rattle.udf_redo.specs.declared.stop.RedoStop.TheVariants.{Memory};
 ghost use Rattle.udf_top.specs.declared.outcome.Cause.{Cause};
-ghost use Rattle.udf_top.specs.Found.{findings_in};
+ghost use Rattle.udf_rules.specs.Found.{findings_in};
 ghost use Rattle.udf_top.specs.Texts.{text_of};
 ghost use Rattle.udf_top.specs.Repairing.{mend_said, repaired_as};
 ghost use Rattle.udf_top.specs.Endings.{HasOpenedNoGate, HasEnded};
 ghost use Rattle.udf_top.specs.Steps.{IsMending, IsMended, Inspects, Mends, Says};
 ghost use Rattle.udf_top.specs.Attaching.{KeepsAsked};
 
-use crate::rules::check_rules;
 use crate::say::{say, say_mend};
 use crate::{Findings, Outcome};
 use std::alloc::Global;
 use udf_outside::{Bench, Sink};
 use udf_plan::{Plan, plan_volume};
 use udf_redo::{RedoStop, apply, close_gate, open_gate, write_log};
+use udf_rules::check_volume;
 use udf_volume::{LayerStop, Volume, WorkStop, open_writable};
 
 /// A volume that a repair may write, and what breaks the rules on it.
@@ -56,7 +56,7 @@ fn inspect<B: Bench>(
     ensures reads { OnlyReads B.files B.held B.faults bench.old bench.new LayerStop.Fault result }
 {
     let volume = open_writable(alloc, bench, size, length)?;
-    let findings = check_rules(alloc, bench, &volume)?;
+    let findings = check_volume(alloc, bench, &volume)?;
     Ok(Inspected { volume, findings })
 }
 

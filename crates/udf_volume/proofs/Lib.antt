@@ -13,3 +13,4 @@ pub mod Profiled
 pub mod Laying
 pub mod LaidOut
 pub mod Protected
+pub mod Parted

@@ -9,3 +9,4 @@ pub mod Spans
 pub mod Laid
 pub mod Writable
 pub mod Refusals
+pub mod Eligible

@@ -1,4 +1,4 @@
-use Rattle.std.proofs.Common.{◌≡◌, ◌≤◌, ◌++◌, take}
+use Rattle.std.proofs.Common.{◌≡◌, ◌++◌, take}
 use Rattle.udf_model.specs.Image.{block_of}
 use Rattle.udf_outside.specs.Stops.{bytes_of}
 use Rattle.udf_outside.specs.declared.bench.Role.TheVariants.{Image}

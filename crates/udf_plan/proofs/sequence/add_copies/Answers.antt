@@ -1,4 +1,4 @@
-use Rattle.std.proofs.Common.{◌+◌, ◌∷◌, ◌++◌, [], ℕ, List, arith, refl, ap, ◌∙◌}
+use Rattle.std.proofs.Common.{◌+◌, ◌∷◌, ◌++◌, [], ℕ, List, refl, ap, ◌∙◌}
 use Rattle.udf_model.specs.Image.{block_of}
 use Rattle.udf_model.specs.Tag.{relocated}
 use Rattle.udf_outside.specs.Stops.{bytes_of}

@@ -1,4 +1,4 @@
-use Rattle.std.proofs.Common.{◌≡◌, ◌≤◌, ◌++◌}
+use Rattle.std.proofs.Common.{◌≡◌, ◌++◌}
 use Rattle.std.specs.List.{range_with_len}
 use Rattle.udf_model.specs.Image.{block_of}
 use Rattle.udf_outside.specs.Stops.{bytes_of}

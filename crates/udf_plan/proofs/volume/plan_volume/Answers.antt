@@ -8,7 +8,8 @@ use Rattle.udf_volume.proofs.Protected.{opened_is}
 use Rattle.udf_volume.proofs.Described.{opened_ok}
 use Rattle.udf_blocks.specs.Planned.{Planned, IsLawful}
 use Rattle.udf_plan.specs.Changes.{to_mend}
-use Rattle.udf_plan.specs.Stated.{eligible_stated, bad_stated, all_changes}
+use Rattle.udf_volume.specs.Eligible.{eligible_stated, bad_stated}
+use Rattle.udf_plan.specs.Stated.{all_changes}
 use Rattle.udf_plan.proofs.Exact.{exact}
 use Rattle.udf_plan.proofs.volume.plan_volume.Goals as goal
 

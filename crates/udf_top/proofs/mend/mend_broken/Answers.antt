@@ -3,7 +3,7 @@ use Rattle.udf_outside.specs.Stops.{Held, bytes_of, LeavesOnly}
 use Rattle.udf_outside.specs.declared.bench.Role.TheVariants.{Image}
 use Rattle.udf_volume_model.specs.Opened.{plan_of}
 use Rattle.udf_repair_model.specs.Accepted.{mend}
-use Rattle.udf_top.specs.declared.finding.Finding.{Finding}
+use Rattle.udf_rules.specs.declared.finding.Finding.{Finding}
 use Rattle.udf_top.specs.Steps.{IsMending, IsMended}
 use Rattle.udf_volume_model.specs.Plans.{IsRewrite}
 use Rattle.udf_repair_model.proofs.Repair.{mend_rewrites}

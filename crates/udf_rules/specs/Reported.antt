@@ -5,9 +5,9 @@ use Rattle.udf_volume_model.specs.Kept.{whole_by}
 use Rattle.udf_volume_model.specs.Rules.{agrees}
 use Rattle.udf_volume.specs.Spans.{kept_span, other_span, limit_stated, said_in}
 use Rattle.udf_volume.specs.declared.volume.Volume.{Volume}
-use Rattle.udf_plan.specs.Stated.{eligible_stated, bad_stated}
-use Rattle.udf_top.specs.declared.finding.Finding.{Finding}
-use Rattle.udf_top.specs.Found.{anchor_report, sequence_report}
+use Rattle.udf_volume.specs.Eligible.{eligible_stated, bad_stated}
+use Rattle.udf_rules.specs.declared.finding.Finding.{Finding}
+use Rattle.udf_rules.specs.Found.{anchor_report, sequence_report}
 
 unfoldable pub anchors_reported : Volume → List ℕ → List Finding
 anchors_reported volume image = anchor_report (eligible_stated volume) (bad_stated volume image)

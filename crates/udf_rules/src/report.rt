@@ -1,6 +1,6 @@
 //! The line of a finding.
 ghost use Rattle.std.specs.Prelude.{◌≡◌, ◌+◌, ◌≤◌, ◌++◌, take, length, codes, decimal};
-ghost use Rattle.udf_top.specs.Lines.{line_of, place_of};
+ghost use Rattle.udf_rules.specs.Lines.{line_of, place_of};
 
 use crate::{Finding, Place};
 use itoa::{Buffer, Integer};

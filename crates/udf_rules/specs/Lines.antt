@@ -1,8 +1,8 @@
 -- The line of a finding.
 use Rattle.std.specs.Prelude.{List, ℕ, ◌++◌, flat_map, codes, decimal}
-use Rattle.udf_top.specs.declared.finding.Place.{Place}
-use Rattle.udf_top.specs.declared.finding.Place.TheVariants as place
-use Rattle.udf_top.specs.declared.finding.Finding.{Finding}
+use Rattle.udf_rules.specs.declared.finding.Place.{Place}
+use Rattle.udf_rules.specs.declared.finding.Place.TheVariants as place
+use Rattle.udf_rules.specs.declared.finding.Finding.{Finding}
 
 abbrev pub place_of : Place → List ℕ
 place_of (place.Sector sector) = codes "-:" ++ decimal sector

@@ -4,8 +4,8 @@ use Rattle.udf_outside.specs.Stops.{Held, bytes_of}
 use Rattle.udf_outside.specs.declared.bench.Role.TheVariants.{Image}
 use Rattle.udf_volume_model.specs.Sequence.{front_of, is_spoilt}
 use Rattle.udf_volume.specs.Spans.{said_in}
-use Rattle.udf_top.proofs.Reported.{sequences_from}
-use Rattle.udf_top.proofs.rules.check_sequences.Goals as goal
+use Rattle.udf_rules.proofs.Reported.{sequences_from}
+use Rattle.udf_rules.proofs.sequences.check_sequences.Goals as goal
 
 pub returns-clause-found : goal.returns-clause-found
 returns-clause-found g c = λ tells.

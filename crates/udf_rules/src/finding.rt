@@ -29,7 +29,7 @@ pub struct Findings {
 
 impl Model for Findings {
     ghost use Rattle.std.specs.Prelude.{List};
-    ghost use Rattle.udf_top.specs.declared.finding.Finding.{Finding};
+    ghost use Rattle.udf_rules.specs.declared.finding.Finding.{Finding};
 
     ghost Value = { List Finding };
 

@@ -14,11 +14,11 @@ use Rattle.udf_volume.specs.Areas.{anchor_stated}
 use Rattle.udf_volume_model.proofs.Listed.{listed_is}
 use Rattle.udf_volume.proofs.KeptList.{kept_front}
 use Rattle.udf_volume.proofs.Described.{Describes, opened_ok, blocks_is, anchor_is, limit_is, areas_is, kept_is, other_is}
-use Rattle.udf_plan.proofs.Exact.{parted, none_fails}
-use Rattle.udf_top.specs.declared.finding.Place.TheVariants.{Sector}
-use Rattle.udf_top.specs.Found.{finding_of, findings_by, findings_in, anchor_report, sequence_report}
-use Rattle.udf_plan.specs.Stated.{eligible_stated}
-use Rattle.udf_top.specs.Reported.{unspoilt, anchors_reported, sequences_reported}
+use Rattle.udf_volume.proofs.Parted.{parted, none_fails}
+use Rattle.udf_rules.specs.declared.finding.Place.TheVariants.{Sector}
+use Rattle.udf_rules.specs.Found.{finding_of, findings_by, findings_in, anchor_report, sequence_report}
+use Rattle.udf_volume.specs.Eligible.{eligible_stated}
+use Rattle.udf_rules.specs.Reported.{unspoilt, anchors_reported, sequences_reported}
 
 map-map : (f : ℕ → Found) (xs : List ℕ) → map finding_of (map f xs) ≡ map (λ x. finding_of (f x)) xs
 map-map f [] = refl

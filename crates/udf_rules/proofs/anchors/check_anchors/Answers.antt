@@ -1,6 +1,6 @@
 use Rattle.std.proofs.Common.{arith, ap, ◌∙◌, ◌++◌, length}
-use Rattle.udf_top.proofs.Reported.{anchors_from}
-use Rattle.udf_top.proofs.rules.check_anchors.Goals as goal
+use Rattle.udf_rules.proofs.Reported.{anchors_from}
+use Rattle.udf_rules.proofs.anchors.check_anchors.Goals as goal
 
 pub report_anchors-requires : goal.report_anchors-requires
 report_anchors-requires g c =

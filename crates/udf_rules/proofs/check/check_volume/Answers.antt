@@ -1,10 +1,10 @@
 use Rattle.std.proofs.Common.{ap, ◌∙◌, List, ◌++◌}
 use Rattle.udf_outside.specs.Stops.{Held, bytes_of}
 use Rattle.udf_outside.specs.declared.bench.Role.TheVariants.{Image}
-use Rattle.udf_top.specs.declared.finding.Finding.{Finding}
-use Rattle.udf_top.specs.Reported.{anchors_reported, sequences_reported}
-use Rattle.udf_top.proofs.Reported.{found_all}
-use Rattle.udf_top.proofs.rules.check_rules.Goals as goal
+use Rattle.udf_rules.specs.declared.finding.Finding.{Finding}
+use Rattle.udf_rules.specs.Reported.{anchors_reported, sequences_reported}
+use Rattle.udf_rules.proofs.Reported.{found_all}
+use Rattle.udf_rules.proofs.check.check_volume.Goals as goal
 
 pub returns-clause-found : goal.returns-clause-found
 returns-clause-found g c = λ tells.

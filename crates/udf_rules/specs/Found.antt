@@ -3,8 +3,8 @@ use Rattle.std.specs.Prelude.{ℕ, Bool, ◌==◌, ◌-◌, ◌||◌, nat_le, if
 use Rattle.udf_model.specs.Image.{block_of, blocks_in}
 use Rattle.udf_volume_model.specs.Kept.{Volume, volume_of}
 use Rattle.udf_volume_model.specs.Rules.{Found, findings}
-use Rattle.udf_top.specs.declared.finding.Place.TheVariants.{Sector}
-use Rattle.udf_top.specs.declared.finding.Finding.{Finding}
+use Rattle.udf_rules.specs.declared.finding.Place.TheVariants.{Sector}
+use Rattle.udf_rules.specs.declared.finding.Finding.{Finding}
 
 abbrev pub finding_of : Found → Finding
 finding_of found = record { rule = found.rule; place = Sector found.sector; first = found.first; second = found.second }

@@ -1,6 +1,6 @@
 use Rattle.std.proofs.Common.{◌≡◌, ◌++◌, take, map, length, ◌-◌}
-use Rattle.udf_top.specs.declared.finding.Place.TheVariants.{Sector}
-use Rattle.udf_top.proofs.rules.report_anchors.Given as goal
+use Rattle.udf_rules.specs.declared.finding.Place.TheVariants.{Sector}
+use Rattle.udf_rules.proofs.anchors.report_anchors.Given as goal
 
 abbrev pub invariant-loop-place : goal.invariant-loop-place
 invariant-loop-place l = l.findings ≡ l.initial.findings
