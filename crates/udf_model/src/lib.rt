@@ -1,13 +1,22 @@
 //! The definitions on which every crate of the project stands: bytes and numbers, the CRC, descriptor tags, and
-//! images cut into blocks, as lists of bytes in the terms of ECMA-167. The code of this crate is laws alone: functions
-//! with an empty body whose contract says what the definitions mean. It stands on `byteorder`'s numbers.
+//! images cut into blocks, as lists of bytes in the terms of ECMA-167. But for the test of a block size its code is laws:
+//! functions with an empty body whose contract says what the definitions mean. It stands on `byteorder`'s numbers.
 #![tactic(auto)]
 
 ghost use Rattle.std.specs.Prelude.{◌≡◌, ℕ, ◌+◌, ◌^◌, ◌<◌, ◌≤◌, ◌⊎◌, List, length, take, drop, slice_index, true, Some};
+ghost use Rattle.udf_model.specs.Size.{is_size};
 ghost use Rattle.udf_model.specs.Bytes.{IsBytes, number_at, with_number, written_at};
 ghost use Rattle.byteorder.specs.Endian.{little_bytes};
 ghost use Rattle.udf_model.specs.Crc.{IsCrc, crc_of};
 ghost use Rattle.udf_model.specs.Tag.{IsWhole, crc_length, id_at, identifier, is_whole, location, relocated, retagged};
+
+/// Whether a number is a block size of the profile: 512, 1024, 2048 or 4096 bytes.
+#[tactic(auto, unfolding(crate::specs::Size::is_size))]
+pub fn is_block_size(size: u32) -> bool
+    ensures { result ≡ is_size size }
+{
+    matches!(size, 512 | 1024 | 2048 | 4096)
+}
 
 /// The CRC is the one remainder of the bytes' polynomial.
 pub fn crc_law()

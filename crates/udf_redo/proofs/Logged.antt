@@ -11,7 +11,8 @@ use Rattle.udf_volume.specs.Spans.{kept_span}
 use Rattle.udf_volume.specs.declared.volume.Volume.{Volume}
 use Rattle.udf_redo.specs.declared.head.LogHead.{LogHead}
 use Rattle.udf_redo.specs.declared.side.SideState.TheVariants.{Closed}
-use Rattle.udf_redo.specs.Log.{gate, head_in, records_of, is_size, is_head, are_lawful, is_log_of, sealed_in, state_of, head_bytes, record_bytes, opened}
+use Rattle.udf_model.specs.Size.{is_size}
+use Rattle.udf_redo.specs.Log.{gate, head_in, records_of, is_head, are_lawful, is_log_of, sealed_in, state_of, head_bytes, record_bytes, opened}
 use Rattle.udf_redo.specs.Settled.{IsOpenLog}
 use Rattle.udf_redo.specs.Sealing.{head_for}
 use Rattle.udf_redo.specs.Front.{IsShut}

@@ -6,6 +6,7 @@ use Rattle.std.specs.Prelude.{ℕ, zero, suc, ◌+◌, ◌*◌, ◌==◌, ◌&&�
 use Rattle.std.specs.Str.{bytes_eq}
 use Rattle.byteorder.specs.Endian.{little_bytes}
 use Rattle.sha2.specs.Sha256.{sha256}
+use Rattle.udf_model.specs.Size.{is_size}
 use Rattle.udf_model.specs.Bytes.{number_at}
 use Rattle.udf_model.specs.Image.{blocks_in}
 use Rattle.udf_outside.specs.Stops.{slice_of}
@@ -44,9 +45,6 @@ records_in size (suc count) bytes = (number_at 4 bytes 0, slice_of bytes 4 size)
 
 abbrev pub records_of : List ℕ → List Edit
 records_of file = records_in (head_in file).size (head_in file).records (drop 61 file)
-
-unfoldable pub is_size : ℕ → Bool
-is_size size = (size == 512) || ((size == 1024) || ((size == 2048) || (size == 4096)))
 
 -- one of the four block sizes, at least one sealed sector, all of them below the block count, and at least one record
 unfoldable pub is_head : LogHead → Bool

@@ -1,8 +1,9 @@
 //! What stands in a log before its records.
 ghost use Rattle.std.specs.Prelude.{◌≡◌, ◌≤◌, ◌+◌, ◌*◌, ◌<◌, ◌^◌, IsTrue};
-ghost use Rattle.udf_redo.specs.Log.{head_in, head_bytes, is_head, is_size, log_length, may_stand};
+ghost use Rattle.udf_redo.specs.Log.{head_in, head_bytes, is_head, log_length, may_stand};
 
 use byteorder::{ByteOrder, LittleEndian};
+use udf_model::is_block_size;
 
 /// The first byte of a file whose gate is open.
 pub const GATE_OPEN: u8 = 0x4F;
@@ -66,19 +67,12 @@ impl LogHead {
         bytes
     }
 
-    #[tactic(auto, unfolding(crate::specs::Log::is_size))]
-    fn has_size(&self) -> bool
-        ensures { result ≡ is_size self.now.size }
-    {
-        self.size == 512 || self.size == 1024 || self.size == 2048 || self.size == 4096
-    }
-
     /// Whether the fields are those of a log.
     #[tactic(auto, unfolding(crate::specs::Log::is_head))]
     pub fn is_lawful(&self) -> bool
         ensures { result ≡ is_head self.now }
     {
-        self.has_size()
+        is_block_size(self.size)
             && 0 < self.sealed
             && self.first as u64 + self.sealed as u64 <= self.blocks as u64
             && 0 < self.records

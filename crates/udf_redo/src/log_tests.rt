@@ -104,7 +104,7 @@ enum Rest {
 }
 
 // The files after a repair.
-#[tactic(auto, unfolding(crate::specs::Log::is_size), using(udf_outside::proofs::Moments::begun_settled, udf_plan::proofs::Rooms::fits_image))]
+#[tactic(auto, unfolding(udf_model::specs::Size::is_size), using(udf_outside::proofs::Moments::begun_settled, udf_plan::proofs::Rooms::fits_image))]
 fn repaired(alloc: Global, image: Vec<u8>, rest: Rest) -> Result<MemBench, RedoStop> {
     let mut bench = MemBench::new(alloc, image, Vec::new(alloc), Vec::new(alloc), None);
     bench.attach(Role::Image, "a.img", Access::Write)?;

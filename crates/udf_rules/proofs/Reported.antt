@@ -6,6 +6,7 @@ use Rattle.udf_volume_model.specs.Sequence.{Descriptor, views, front_of, is_spoi
 use Rattle.udf_volume_model.specs.Anchor.{Anchor, Extent, blocks_of}
 use Rattle.udf_volume_model.specs.Kept.{Volume, kept, other, limit_of, whole_by, sequence_at}
 use Rattle.udf_volume_model.specs.Areas.{Area, areas_of}
+use Rattle.udf_volume_model.specs.Rules as model
 use Rattle.udf_volume_model.specs.Rules.{Found, ascending_places, is_eligible, eligible, is_good, good_of, bad_of, anchors_hold, anchor_findings, agrees, sequences_hold, sequence_findings, findings}
 use Rattle.udf_volume.specs.declared.volume.Volume as code
 use Rattle.udf_volume.specs.Opened.{opened}
@@ -34,7 +35,7 @@ module _ (size blocks : ℕ) (disk : ℕ → List ℕ) (v : Volume) where
   good_many : length E - length (bad_of disk v E) ≡ length (good_of disk v E)
   good_many = omega (arith, parted good E)
 
-  reports : (b : Bool) → map finding_of (cond b [] (map (λ place. record { rule = 2; sector = place; first = length (good_of disk v E); second = length E }) (bad_of disk v E)))
+  reports : (b : Bool) → map finding_of (cond b [] (map (λ place. record { rule = 2; place = model.Sector place; first = length (good_of disk v E); second = length E }) (bad_of disk v E)))
       ≡ cond b [] (map (λ place. record { rule = 2; place = Sector place; first = length (good_of disk v E); second = length E }) (bad_of disk v E))
   reports true = refl
   reports false = map-map _ (bad_of disk v E)
@@ -50,7 +51,7 @@ module _ (size blocks : ℕ) (disk : ℕ → List ℕ) (v : Volume) where
       ∙ sym (reports (leb 2 (length (good_of disk v E)) || list_all good E))
 
   by_hold : (b : Bool) (start read many : ℕ)
-      → sequence_report b start read many ≡ map finding_of (cond b [] (record { rule = 3; sector = start; first = read; second = many } ∷ []))
+      → sequence_report b start read many ≡ map finding_of (cond b [] (record { rule = 3; place = model.Sector start; first = read; second = many } ∷ []))
   unfolding sequence_report
   by_hold true start read many = refl
   by_hold false start read many = refl

@@ -2,12 +2,18 @@
 use Rattle.std.specs.Prelude.{ℕ, Bool, ◌==◌, ◌-◌, ◌||◌, nat_le, if◌then◌else◌, List, [], ◌∷◌, length, map, Option, Some, None}
 use Rattle.udf_model.specs.Image.{block_of, blocks_in}
 use Rattle.udf_volume_model.specs.Kept.{Volume, volume_of}
+use Rattle.udf_volume_model.specs.Rules as model
 use Rattle.udf_volume_model.specs.Rules.{Found, findings}
-use Rattle.udf_rules.specs.declared.finding.Place.TheVariants.{Sector}
+use Rattle.udf_rules.specs.declared.finding.Place.{Place}
+use Rattle.udf_rules.specs.declared.finding.Place.TheVariants.{Sector, At}
 use Rattle.udf_rules.specs.declared.finding.Finding.{Finding}
 
+abbrev pub place_in : model.Place → Place
+place_in (model.Sector sector) = Sector sector
+place_in (model.At part block) = At (record { part = part; block = block })
+
 abbrev pub finding_of : Found → Finding
-finding_of found = record { rule = found.rule; place = Sector found.sector; first = found.first; second = found.second }
+finding_of found = record { rule = found.rule; place = place_in found.place; first = found.first; second = found.second }
 
 abbrev pub findings_by : ℕ → List ℕ → Option Volume → List Finding
 findings_by size image None = []

@@ -24,7 +24,7 @@ use Rattle.udf_volume.specs.Opened.{opened}
 use Rattle.udf_volume.specs.Writable.{opened_writable, is_protected, by_protection}
 use Rattle.udf_volume.proofs.Described.{opened_ok}
 use Rattle.udf_repair_model.proofs.Repair.{accepted_is}
-use Rattle.udf_redo.specs.Log.{is_size}
+use Rattle.udf_model.specs.Size.{is_size}
 use Rattle.udf_redo.specs.Settled.{IsFree}
 use Rattle.udf_redo.proofs.Logged.{size_cases}
 use Rattle.udf_rules.specs.declared.finding.Finding.{Finding}

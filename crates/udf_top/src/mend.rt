@@ -11,7 +11,7 @@ ghost use Rattle.udf_volume.specs.Laid.{IsLaidOut};
 ghost use Rattle.udf_volume.specs.Opened.{IsBounded};
 ghost use Rattle.udf_volume.specs.Writable.{opened_writable};
 ghost use Rattle.udf_blocks.specs.PlanFor.{IsPlanFor};
-ghost use Rattle.udf_redo.specs.Log.{is_size};
+ghost use Rattle.udf_model.specs.Size.{is_size};
 ghost use Rattle.udf_redo.specs.Settled.{IsFree};
 ghost use Rattle.udf_redo.specs.Faults.{HasFault, OnlyFaultsOrMemory};
 ghost use Rattle.udf_redo.specs.declared.stop.RedoStop.TheVariants.{Memory};

@@ -3,7 +3,7 @@ ghost use Rattle.std.specs.Prelude.{◌≡◌, ◌≤◌, ℕ, List, Some, None,
 ghost use Rattle.udf_outside.specs.Stops.{pair_of, IsSettled};
 ghost use Rattle.udf_outside.specs.Causes.{Rose};
 ghost use Rattle.udf_outside.specs.declared.bench.Access.TheVariants.{Write};
-ghost use Rattle.udf_redo.specs.Log.{is_size};
+ghost use Rattle.udf_model.specs.Size.{is_size};
 ghost use Rattle.udf_top.specs.declared.outcome.Cause.{Cause};
 ghost use Rattle.udf_top.specs.Texts.{text_of};
 ghost use Rattle.udf_top.specs.Repairing.{refused_log, repair_of, repair_said};

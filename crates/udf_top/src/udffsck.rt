@@ -6,7 +6,7 @@ ghost use Rattle.udf_outside.specs.declared.bench.Access.TheVariants.{Read};
 ghost use Rattle.udf_top.specs.declared.outcome.Cause.{Cause};
 ghost use Rattle.udf_volume.specs.declared.missing.Missing.{Missing};
 ghost use Rattle.udf_volume.specs.Refusals.{IsOfVolume};
-ghost use Rattle.udf_redo.specs.Log.{is_size};
+ghost use Rattle.udf_model.specs.Size.{is_size};
 ghost use Rattle.udf_top.specs.Words.{Command, Repair, command_in, repair_in, beside, checks, names_one_by, names_one_file};
 ghost use Rattle.udf_top.specs.Asked.{side_seen};
 ghost use Rattle.udf_top.specs.Texts.{text_of};

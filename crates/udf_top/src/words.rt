@@ -1,6 +1,6 @@
 //! The words of a command line.
 ghost use Rattle.std.specs.Prelude.{◌≡◌, true, map, string_bytes, length, IfOk, IfSome, Some};
-ghost use Rattle.udf_redo.specs.Log.{is_size};
+ghost use Rattle.udf_model.specs.Size.{is_size};
 ghost use Rattle.udf_top.specs.Words.{begins_with_dash, size_in, command_by, short_command, long_command, command_in};
 ghost use Rattle.udf_top.specs.Asked.{Reads, side_seen};
 
@@ -38,7 +38,7 @@ fn is_option(text: &str) -> bool
     }
 }
 
-#[tactic(auto, unfolding(crate::specs::Words::size_in, udf_redo::specs::Log::is_size))]
+#[tactic(auto, unfolding(crate::specs::Words::size_in, udf_model::specs::Size::is_size))]
 fn size_of(word: &str) -> Option<u32>
     ensures read { result ≡ size_in word.now }
     ensures size { IfSome result (λ size. is_size size ≡ true) }

@@ -1,5 +1,5 @@
 -- Lists that a test parts.
-use Rattle.std.proofs.Common.{◌≡◌, ℕ, suc, ◌+◌, arith, refl, sym, ◌∙◌, ap, List, [], ◌∷◌, length, Bool, true, false, cond, not, ◌&&◌, eqb}
+use Rattle.std.proofs.Common.{◌≡◌, ℕ, suc, ◌+◌, arith, refl, List, [], ◌∷◌, length, Bool, true, false, cond, not, ◌&&◌, eqb}
 use Rattle.std.specs.List.{list_all, filter}
 
 -- a test parts a list in two

@@ -1,5 +1,5 @@
 -- The disk after the mends.
-use Rattle.std.proofs.Common.{◌≡◌, ℕ, ◌+◌, ◌^◌, ◌<◌, ◌≤◌, arith, refl, sym, ◌∙◌, ap, subst, List, [], ◌++◌, length, Bool, true, false, cond, not, ◌&&◌, leb, ltb, Some, inl, inr, ◌⊎◌}
+use Rattle.std.proofs.Common.{◌≡◌, ℕ, ◌+◌, ◌^◌, ◌<◌, ◌≤◌, arith, refl, sym, ◌∙◌, ap, subst, List, [], ◌++◌, length, Bool, true, false, cond, not, leb, ltb, Some, inl, inr, ◌⊎◌}
 use Rattle.std.proofs.lemmas.Bool.{and_parts, cases_Bool, cases_lt, leb-true, ltb-true}
 use Rattle.std.specs.List.{list_all, filter}
 use Rattle.udf_model.specs.Tag.{relocated}

@@ -6,7 +6,7 @@ use Rattle.udf_volume_model.specs.Anchor.{blocks_of}
 use Rattle.udf_volume_model.specs.Kept.{Volume, other}
 use Rattle.udf_volume_model.specs.Sequence.{views, front_of}
 use Rattle.udf_volume_model.specs.Areas.{areas_of}
-use Rattle.udf_volume_model.specs.Rules.{ascending_places, is_eligible, eligible, is_good, good_of, bad_of, anchors_hold, sequences_hold, rules_hold, Found, anchor_findings, sequence_findings, findings}
+use Rattle.udf_volume_model.specs.Rules.{ascending_places, is_eligible, eligible, is_good, good_of, bad_of, anchors_hold, sequences_hold, rules_hold, Sector, Found, anchor_findings, sequence_findings, findings}
 use Rattle.udf_volume_model.specs.Order.{AscendsFrom, Ascends}
 
 -- numbers ascend, from one on
@@ -67,16 +67,13 @@ places_rise blocks = by_zero (eqb blocks 0) where
   by_zero true = tt
   by_zero false = by_second (ltb blocks 257) refl
 
-made : ℕ → ℕ → ℕ → Found
-made good all place = record { rule = 2; sector = place; first = good; second = all }
-
 -- findings of the rule on anchors, before those of the rule on sequences
 before_sequences : (size : ℕ) (disk : ℕ → List ℕ) (volume : Volume) (first : Found) → first.rule ≡ 2 → AscendsFrom first (sequence_findings size disk volume)
 unfolding sequence_findings
 before_sequences size disk volume first two = by_rule (sequences_hold size disk volume) where
   by_rule : (b : Bool) → AscendsFrom first (cond b [] (record {
     rule = 3;
-    sector = (other volume).start;
+    place = Sector (other volume).start;
     first = length (front_of (views disk (other volume).start (blocks_of size (other volume))));
     second = length volume.list;
   } ∷ []))
@@ -88,7 +85,7 @@ unfolding sequence_findings
 sequences_ascend size disk volume = by_rule (sequences_hold size disk volume) where
   by_rule : (b : Bool) → Ascends (cond b [] (record {
     rule = 3;
-    sector = (other volume).start;
+    place = Sector (other volume).start;
     first = length (front_of (views disk (other volume).start (blocks_of size (other volume))));
     second = length volume.list;
   } ∷ []))
@@ -97,11 +94,11 @@ sequences_ascend size disk volume = by_rule (sequences_hold size disk volume) wh
 
 module _ (size : ℕ) (disk : ℕ → List ℕ) (volume : Volume) (good all : ℕ) where
   abbrev of_place : ℕ → Found
-  of_place place = record { rule = 2; sector = place; first = good; second = all }
+  of_place place = record { rule = 2; place = Sector place; first = good; second = all }
 
   from_place : (x : ℕ) (xs : List ℕ) → Climbs x xs → AscendsFrom (of_place x) (map of_place xs ++ sequence_findings size disk volume)
   from_place x [] c = before_sequences size disk volume (of_place x) refl
-  from_place x (y ∷ ys) c = (inr (refl, c.0), from_place y ys c.1)
+  from_place x (y ∷ ys) c = (inr (refl, inl c.0), from_place y ys c.1)
 
   places_ascend : (xs : List ℕ) → Rises xs → Ascends (map of_place xs ++ sequence_findings size disk volume)
   places_ascend [] c = sequences_ascend size disk volume
@@ -112,7 +109,7 @@ unfolding findings anchor_findings eligible
 order size blocks disk volume = by_rule (anchors_hold size blocks disk volume) where
   by_rule : (b : Bool) → Ascends (cond b [] (map (λ place. record {
     rule = 2;
-    sector = place;
+    place = Sector place;
     first = length (good_of disk volume (filter (is_eligible (areas_of size volume.anchor volume.list)) (ascending_places blocks)));
     second = length (filter (is_eligible (areas_of size volume.anchor volume.list)) (ascending_places blocks));
   }) (bad_of disk volume (filter (is_eligible (areas_of size volume.anchor volume.list)) (ascending_places blocks)))) ++ sequence_findings size disk volume)
@@ -128,13 +125,13 @@ unbroken size blocks disk volume e =
     let parts = and_parts (anchors_hold size blocks disk volume) (sequences_hold size disk volume) e in
     ap (λ b. cond b [] (map (λ place. record {
       rule = 2;
-      sector = place;
+      place = Sector place;
       first = length (good_of disk volume (eligible size blocks volume));
       second = length (eligible size blocks volume);
     }) (bad_of disk volume (eligible size blocks volume))) ++ sequence_findings size disk volume) parts.0
     ∙ ap (λ b. cond b [] (record {
       rule = 3;
-      sector = (other volume).start;
+      place = Sector (other volume).start;
       first = length (front_of (views disk (other volume).start (blocks_of size (other volume))));
       second = length volume.list;
     } ∷ [])) parts.1
@@ -176,7 +173,7 @@ unfolding findings anchor_findings
 second_holds size blocks disk volume e = by_rule (anchors_hold size blocks disk volume) refl e where
   by_rule : (b : Bool) → anchors_hold size blocks disk volume ≡ b → cond b [] (map (λ place. record {
     rule = 2;
-    sector = place;
+    place = Sector place;
     first = length (good_of disk volume (eligible size blocks volume));
     second = length (eligible size blocks volume);
   }) (bad_of disk volume (eligible size blocks volume))) ++ sequence_findings size disk volume ≡ [] → anchors_hold size blocks disk volume ≡ true

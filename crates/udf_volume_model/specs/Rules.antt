@@ -73,10 +73,15 @@ agrees list (Some others) = same_prevailing list others
 unfoldable pub sequences_hold : ℕ → (ℕ → List ℕ) → Volume → Bool
 sequences_hold size disk volume = agrees volume.list (sequence_at size disk (limit_of size volume.anchor) (other volume))
 
--- What is found: the number of the rule, the sector, and two values.
+-- Where something is found: a sector of the image, or a block of a partition by its reference.
+pub data Place : Type 0 where
+  Sector : ℕ → Place
+  At : ℕ → ℕ → Place
+
+-- What is found: the number of the rule, the place, and two values.
 pub record Found : Type 0 where
   pub rule : ℕ
-  pub sector : ℕ
+  pub place : Place
   pub first : ℕ
   pub second : ℕ
 
@@ -87,7 +92,7 @@ anchor_findings size blocks disk volume =
     else map
     (λ place. record {
       rule = 2;
-      sector = place;
+      place = Sector place;
       first = length (good_of disk volume (eligible size blocks volume));
       second = length (eligible size blocks volume);
     })
@@ -99,7 +104,7 @@ sequence_findings size disk volume =
     if sequences_hold size disk volume then []
     else record {
       rule = 3;
-      sector = (other volume).start;
+      place = Sector (other volume).start;
       first = length (front_of (views disk (other volume).start (blocks_of size (other volume))));
       second = length volume.list;
     } ∷ []

@@ -1,0 +1,6 @@
+-- The block sizes of the profile, in bytes.
+use Rattle.std.specs.Prelude.{ℕ, Bool, ◌==◌, ◌||◌}
+
+-- one of the four
+unfoldable pub is_size : ℕ → Bool
+is_size size = (size == 512) || ((size == 1024) || ((size == 2048) || (size == 4096)))
