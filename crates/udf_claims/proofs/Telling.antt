@@ -1,10 +1,10 @@
 -- The two maps after a run more.
-use Rattle.std.proofs.Common.{Bool, true, false, not, ◌&&◌, ◌||◌, cond, ◌≡◌, refl, sym, ap, subst, ◌∙◌, inl, inr, ℕ, ◌+◌, ◌-◌, ◌*◌, ◌<◌, ◌≤◌, List, [], ◌∷◌, ◌++◌, Option, Some, None, is_some, nat_eq, nat_lt, nat_le, fold, arith}
+use Rattle.std.proofs.Common.{Bool, true, false, ◌&&◌, ◌||◌, cond, ◌≡◌, refl, sym, ap, subst, ◌∙◌, inl, inr, ℕ, ◌+◌, ◌*◌, ◌<◌, ◌≤◌, List, [], ◌∷◌, ◌++◌, Option, Some, None, is_some, nat_eq, nat_lt, nat_le, fold, arith}
 use Rattle.std.specs.Prelude.{IsSome}
 use Rattle.std.specs.Ordering.{nat_cmp}
 use Rattle.std.specs.BTreeMap.{BTreeMap, get}
 use Rattle.std.specs.List.{list_any}
-use Rattle.std.proofs.lemmas.Bool.{cases_order, cases_lt, or_from, and_right}
+use Rattle.std.proofs.lemmas.Bool.{cases_order, or_from, and_right}
 use Rattle.std.proofs.lemmas.Bool.Decides.{nat_tests}
 use Rattle.std.proofs.lemmas.List.Sums.{fold-append}
 use Rattle.std.proofs.lemmas.List.Folds.{list_any-append}
@@ -15,7 +15,7 @@ use Rattle.udf_claims.specs.Best.{is_owner, join, best_step, best_at}
 use Rattle.udf_claims.specs.Shares.{sole_after, IsTop}
 use Rattle.udf_claims.specs.Standing.{standing}
 use Rattle.udf_claims.specs.Telling.{by_class, IsBest, Tells}
-use Rattle.udf_claims.specs.Winner.{covers, claimed, number, block_after}
+use Rattle.udf_claims.specs.Winner.{covers, claimed, number}
 use Rattle.udf_claims.proofs.Sharing.{top_some, top_none, top_is}
 use Rattle.udf_claims.proofs.Standing.{standing_none}
 use Rattle.udf_claims.proofs.Winning.{by_cases, is_own, or_assoc, or_false}

@@ -1,5 +1,5 @@
 -- Tests of addresses in their order.
-use Rattle.std.proofs.Common.{◌≡◌, ℕ, ◌+◌, ◌-◌, ◌*◌, ◌<◌, ◌≤◌, Bool, true, false, sym, ap, ◌∙◌, inl, inr, arith}
+use Rattle.std.proofs.Common.{◌≡◌, ℕ, ◌+◌, ◌-◌, ◌<◌, ◌≤◌, Bool, true, false, inl, inr, arith}
 use Rattle.std.proofs.lemmas.Bool.{cases_lt}
 use Rattle.udf_field.specs.declared.address.Addr.{Addr}
 use Rattle.udf_claims.specs.Walks.{AllPass, IsFirstFailure, AllPassAt, IsFirstFailureAt}

@@ -1,4 +1,4 @@
-use Rattle.std.proofs.Common.{arith, sym, ap, subst, ◌∙◌, ◌≡◌, ℕ, ◌+◌, ◌-◌, ◌*◌, ◌<◌, ◌≤◌, Option, Some, None, inl, inr}
+use Rattle.std.proofs.Common.{arith, sym, ap, subst, ◌∙◌, ◌≡◌, ℕ, ◌+◌, ◌-◌, ◌*◌, ◌<◌, Option, inl, inr}
 use Rattle.std.specs.Prelude.{IsSome}
 use Rattle.std.specs.Ordering.{nat_cmp}
 use Rattle.std.specs.BTreeMap.{get}
@@ -25,14 +25,14 @@ loop-class-preserved c = (
   omega (arith, c.change_after.ensures.after),
   omega (arith, c.change_after.ensures.end),
   λ d q m l h.
-  let class : ℕ = c.in-Some.class in
-  let small : q < 281474976710656 = omega (arith, c.change_after.ensures.end) in
-  let near : q < c.loop-class.end = omega (arith, c.change_after.ensures.end) in
-  elim (cases_lt d class) [
-    | inl n ↦ quiet_below (get nat_cmp c.args.latest.now) c.loop-class.next class q c.requires.edges c.loop-class.invariant.0 c.in-Some.ensures.none small (λ e o. c.loop-class.invariant.3 e q o l near) d n
-    | inr n ↦ let e : d ≡ class = omega arith in ap (by_class c.args.latest.now q) e ∙ c.change_after.ensures.same (class * 281474976710656 + q) (omega arith) (omega arith) ∙ sym c.value_at.ensures
-        ∙ none_is c.value_at.result (sym c.is_some.ensures ∙ c.if-is_some.false)
-  ],
+      let class : ℕ = c.in-Some.class in
+      let small : q < 281474976710656 = omega (arith, c.change_after.ensures.end) in
+      let near : q < c.loop-class.end = omega (arith, c.change_after.ensures.end) in
+      elim (cases_lt d class) [
+        | inl n ↦ quiet_below (get nat_cmp c.args.latest.now) c.loop-class.next class q c.requires.edges c.loop-class.invariant.0 c.in-Some.ensures.none small (λ e o. c.loop-class.invariant.3 e q o l near) d n
+        | inr n ↦ let e : d ≡ class = omega arith in ap (by_class c.args.latest.now q) e ∙ c.change_after.ensures.same (class * 281474976710656 + q) (omega arith) (omega arith) ∙ sym c.value_at.ensures
+            ∙ none_is c.value_at.result (sym c.is_some.ensures ∙ c.if-is_some.false)
+      ],
 )
 
 pub returns-clause-top : goal.returns-clause-top

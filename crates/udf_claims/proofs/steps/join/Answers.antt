@@ -1,7 +1,6 @@
-use Rattle.std.proofs.Common.{arith, sym, ◌∙◌, ◌≡◌, ◌-◌, Option, None, ℕ, true}
+use Rattle.std.proofs.Common.{arith, sym, ◌∙◌, None}
 use Rattle.std.specs.Ordering.{nat_cmp}
 use Rattle.std.specs.BTreeMap.{get}
-use Rattle.udf_claims.specs.Standing.{standing}
 use Rattle.udf_claims.proofs.Sharing.{same_owner}
 use Rattle.udf_claims.proofs.Standing.{standing_removed}
 use Rattle.udf_claims.proofs.steps.join.Goals as goal

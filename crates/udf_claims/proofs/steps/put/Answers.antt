@@ -1,7 +1,7 @@
 use Rattle.std.proofs.Common.{None}
 use Rattle.std.specs.Ordering.{nat_cmp}
 use Rattle.std.specs.BTreeMap.{get}
-use Rattle.udf_claims.proofs.Standing.{value_put, keys_put}
+use Rattle.udf_claims.proofs.Standing.{value_put}
 use Rattle.udf_claims.proofs.steps.put.Goals as goal
 
 pub returns-clause-value : goal.returns-clause-value

@@ -1,5 +1,5 @@
 use Rattle.std.proofs.Common.{arith, sym, ap, ◌∙◌, not}
-use Rattle.udf_claims.specs.Winner.{wins, claimed}
+use Rattle.udf_claims.specs.Winner.{claimed}
 use Rattle.udf_claims.proofs.Telling.{claimed_is}
 use Rattle.udf_claims.proofs.Walks.{pass_more, fails_here}
 use Rattle.udf_claims.proofs.claims.Claims.first_claimed.Goals as goal
@@ -13,5 +13,5 @@ loop-next-preserved c = (
   omega (arith, c.piece-piece.ensures.after),
   c.piece-piece.ensures.end,
   pass_more (λ a. not (claimed c.args.self.now a)) c.args.from c.loop-next.next c.piece-piece.result.end c.loop-next.invariant.2
-  (λ a k l h. ap not (claimed_is a c.args.self.now c.piece-piece.result.best (c.piece-piece.ensures.best a k l h) ∙ sym c.is_some.ensures ∙ c.if-is_some.false)),
+      (λ a k l h. ap not (claimed_is a c.args.self.now c.piece-piece.result.best (c.piece-piece.ensures.best a k l h) ∙ sym c.is_some.ensures ∙ c.if-is_some.false)),
 )

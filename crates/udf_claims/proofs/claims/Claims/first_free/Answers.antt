@@ -13,5 +13,5 @@ loop-next-preserved c = (
   omega (arith, c.piece-piece.ensures.after),
   c.piece-piece.ensures.end,
   pass_more (claimed c.args.self.now) c.args.from c.loop-next.next c.piece-piece.result.end c.loop-next.invariant.2
-  (λ a k l h. claimed_is a c.args.self.now c.piece-piece.result.best (c.piece-piece.ensures.best a k l h) ∙ c.is_none.ensures ∙ ap not c.if-is_none.false),
+      (λ a k l h. claimed_is a c.args.self.now c.piece-piece.result.best (c.piece-piece.ensures.best a k l h) ∙ c.is_none.ensures ∙ ap not c.if-is_none.false),
 )

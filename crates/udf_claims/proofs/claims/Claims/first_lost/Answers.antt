@@ -1,5 +1,5 @@
-use Rattle.std.proofs.Common.{arith, sym, ap, ◌∙◌, not}
-use Rattle.udf_claims.specs.Winner.{wins, claimed}
+use Rattle.std.proofs.Common.{arith, ◌∙◌}
+use Rattle.udf_claims.specs.Winner.{wins}
 use Rattle.udf_claims.proofs.Winning.{wins_is}
 use Rattle.udf_claims.proofs.Walks.{pass_more, fails_here}
 use Rattle.udf_claims.proofs.claims.Claims.first_lost.Goals as goal
@@ -13,5 +13,5 @@ loop-next-preserved c = (
   omega (arith, c.piece-piece.ensures.after),
   c.piece-piece.ensures.end,
   pass_more (wins c.args.self.now c.args.owner) c.args.from c.loop-next.next c.piece-piece.result.end c.loop-next.invariant.2
-  (λ a k l h. wins_is c.args.owner a c.args.self.now c.piece-piece.result.best c.is_won_by.result (c.piece-piece.ensures.best a k l h) c.is_won_by.ensures ∙ c.if-not-is_won_by.false),
+      (λ a k l h. wins_is c.args.owner a c.args.self.now c.piece-piece.result.best c.is_won_by.result (c.piece-piece.ensures.best a k l h) c.is_won_by.ensures ∙ c.if-not-is_won_by.false),
 )

@@ -1,4 +1,4 @@
-use Rattle.std.proofs.Common.{◌≤◌, ◌-◌, not}
+use Rattle.std.proofs.Common.{◌≤◌, ◌-◌}
 use Rattle.udf_claims.specs.Walks.{AllPassAt}
 use Rattle.udf_claims.specs.Winner.{wins}
 use Rattle.udf_claims.proofs.claims.Claims.first_lost.Given as goal
