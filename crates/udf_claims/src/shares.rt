@@ -1,10 +1,8 @@
 // The wants of one class as two maps of steps: who wanted a number last, and who wants it alone. What one more run
 // changes in the second is told by whole stretches of the first, and these become one stretch, the run's own. So a
 // stretch is passed once in its life, however the runs overlap.
-ghost use Rattle.std.specs.Prelude.{◌≡◌, ℕ, ◌<◌, ◌≤◌, ◌&&◌, cond, nat_le, nat_lt, IsSome, Some, OnOk, OnErr, None};
-ghost use Rattle.std.specs.Ordering.{nat_cmp};
-ghost use Rattle.std.specs.BTreeMap.{get};
-ghost use Rattle.udf_claims.specs.Standing.{standing};
+ghost use Rattle.std.specs.Prelude.{◌<◌, ◌≤◌, Some, OnOk, OnErr};
+ghost use Rattle.udf_claims.specs.Standing.{owner_at, HasKey, SameOwners, SetsOwners, KeepsKeys, SharesKeys};
 ghost use Rattle.udf_claims.specs.Shares.{sole_after};
 
 use crate::steps::{Steps, change_after, cut, join, next_key, put, value_at};
@@ -13,8 +11,8 @@ use std::alloc::AllocError;
 // Makes the keys of another map, from one number on and below another, keys of this one too, and that other number.
 fn cut_at_keys(sole: &mut Steps, latest: &Steps, from: u64, to: u64) -> Result<(), AllocError>
     requires { from ≤ to }
-    ensures same { (q : ℕ) → standing (get nat_cmp sole.new) None q ≡ standing (get nat_cmp sole.old) None q }
-    ensures keys { OnOk result ((q : ℕ) → from ≤ q → q ≤ to → IsSome (get nat_cmp latest.now q) → IsSome (get nat_cmp sole.new q)) }
+    ensures same { SameOwners sole.old sole.new }
+    ensures keys { OnOk result (SharesKeys latest.now sole.new from to) }
 {
     let mut next = from;
     while let Some(key) = next_key(latest, next, to) {
@@ -27,10 +25,10 @@ fn cut_at_keys(sole: &mut Steps, latest: &Steps, from: u64, to: u64) -> Result<(
 // Who wants a stretch alone, after one want more, where somebody wanted it last, or nobody.
 fn settle_stretch(sole: &mut Steps, from: u64, to: u64, last: Option<u64>, owner: u64)
     requires forward { from < to }
-    requires first { IsSome (get nat_cmp sole.old from) }
-    requires end { IsSome (get nat_cmp sole.old to) }
-    ensures value { (q : ℕ) → standing (get nat_cmp sole.new) None q ≡ cond (nat_le from q && nat_lt q to) (sole_after owner last (standing (get nat_cmp sole.old) None q)) (standing (get nat_cmp sole.old) None q) }
-    ensures keys { (q : ℕ) → to ≤ q → IsSome (get nat_cmp sole.old q) → IsSome (get nat_cmp sole.new q) }
+    requires first { HasKey sole.old from }
+    requires end { HasKey sole.old to }
+    ensures value { SetsOwners sole.old sole.new from to (λ q. sole_after owner last (owner_at sole.old q)) }
+    ensures keys { KeepsKeys sole.old sole.new to }
 {
     match last {
         None => put(sole, from, to, Some(owner)),
@@ -43,9 +41,9 @@ fn settle_stretch(sole: &mut Steps, from: u64, to: u64, last: Option<u64>, owner
 // Who wants the numbers of a run alone, after it.
 fn settle(sole: &mut Steps, latest: &Steps, from: u64, to: u64, owner: u64)
     requires forward { from ≤ to }
-    requires ends { IsSome (get nat_cmp latest.now from) × IsSome (get nat_cmp latest.now to) }
-    requires keys { (q : ℕ) → from ≤ q → q ≤ to → IsSome (get nat_cmp latest.now q) → IsSome (get nat_cmp sole.old q) }
-    ensures { (q : ℕ) → standing (get nat_cmp sole.new) None q ≡ cond (nat_le from q && nat_lt q to) (sole_after owner (standing (get nat_cmp latest.now) None q) (standing (get nat_cmp sole.old) None q)) (standing (get nat_cmp sole.old) None q) }
+    requires ends { HasKey latest.now from × HasKey latest.now to }
+    requires keys { SharesKeys latest.now sole.old from to }
+    ensures { SetsOwners sole.old sole.new from to (λ q. sole_after owner (owner_at latest.now q) (owner_at sole.old q)) }
 {
     let mut next = from;
     while next < to {
@@ -60,10 +58,10 @@ fn settle(sole: &mut Steps, latest: &Steps, from: u64, to: u64, owner: u64)
 // Makes both ends of a run keys of both maps, and the keys between of the first ones of the second.
 fn cut_both(latest: &mut Steps, sole: &mut Steps, from: u64, to: u64) -> Result<(), AllocError>
     requires { from ≤ to }
-    ensures latest_same { (q : ℕ) → standing (get nat_cmp latest.new) None q ≡ standing (get nat_cmp latest.old) None q }
-    ensures sole_same { (q : ℕ) → standing (get nat_cmp sole.new) None q ≡ standing (get nat_cmp sole.old) None q }
-    ensures ends { OnOk result (IsSome (get nat_cmp latest.new from) × IsSome (get nat_cmp latest.new to)) }
-    ensures keys { OnOk result ((q : ℕ) → from ≤ q → q ≤ to → IsSome (get nat_cmp latest.new q) → IsSome (get nat_cmp sole.new q)) }
+    ensures latest_same { SameOwners latest.old latest.new }
+    ensures sole_same { SameOwners sole.old sole.new }
+    ensures ends { OnOk result (HasKey latest.new from × HasKey latest.new to) }
+    ensures keys { OnOk result (SharesKeys latest.new sole.new from to) }
 {
     cut(latest, from)?;
     cut(latest, to)?;
@@ -79,10 +77,10 @@ fn share_some(
     owner: u64,
 ) -> Result<(), AllocError>
     requires { from < to }
-    ensures latest { OnOk result ((q : ℕ) → standing (get nat_cmp latest.new) None q ≡ cond (nat_le from q && nat_lt q to) (Some owner) (standing (get nat_cmp latest.old) None q)) }
-    ensures sole { OnOk result ((q : ℕ) → standing (get nat_cmp sole.new) None q ≡ cond (nat_le from q && nat_lt q to) (sole_after owner (standing (get nat_cmp latest.old) None q) (standing (get nat_cmp sole.old) None q)) (standing (get nat_cmp sole.old) None q)) }
-    ensures latest_err { OnErr result ((q : ℕ) → standing (get nat_cmp latest.new) None q ≡ standing (get nat_cmp latest.old) None q) }
-    ensures sole_err { OnErr result ((q : ℕ) → standing (get nat_cmp sole.new) None q ≡ standing (get nat_cmp sole.old) None q) }
+    ensures latest { OnOk result (SetsOwners latest.old latest.new from to (λ _. Some owner)) }
+    ensures sole { OnOk result (SetsOwners sole.old sole.new from to (λ q. sole_after owner (owner_at latest.old q) (owner_at sole.old q))) }
+    ensures latest_err { OnErr result (SameOwners latest.old latest.new) }
+    ensures sole_err { OnErr result (SameOwners sole.old sole.new) }
 {
     cut_both(latest, sole, from, to)?;
     settle(sole, latest, from, to, owner);
@@ -101,10 +99,10 @@ pub(crate) fn share(
     owner: u64,
 ) -> Result<(), AllocError>
     requires { from ≤ to }
-    ensures latest { OnOk result ((q : ℕ) → standing (get nat_cmp latest.new) None q ≡ cond (nat_le from q && nat_lt q to) (Some owner) (standing (get nat_cmp latest.old) None q)) }
-    ensures sole { OnOk result ((q : ℕ) → standing (get nat_cmp sole.new) None q ≡ cond (nat_le from q && nat_lt q to) (sole_after owner (standing (get nat_cmp latest.old) None q) (standing (get nat_cmp sole.old) None q)) (standing (get nat_cmp sole.old) None q)) }
-    ensures latest_err { OnErr result ((q : ℕ) → standing (get nat_cmp latest.new) None q ≡ standing (get nat_cmp latest.old) None q) }
-    ensures sole_err { OnErr result ((q : ℕ) → standing (get nat_cmp sole.new) None q ≡ standing (get nat_cmp sole.old) None q) }
+    ensures latest { OnOk result (SetsOwners latest.old latest.new from to (λ _. Some owner)) }
+    ensures sole { OnOk result (SetsOwners sole.old sole.new from to (λ q. sole_after owner (owner_at latest.old q) (owner_at sole.old q))) }
+    ensures latest_err { OnErr result (SameOwners latest.old latest.new) }
+    ensures sole_err { OnErr result (SameOwners sole.old sole.new) }
 {
     if from < to {
         share_some(latest, sole, from, to, owner)

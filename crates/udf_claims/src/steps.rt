@@ -3,7 +3,7 @@
 ghost use Rattle.std.specs.Prelude.{◌≡◌, ℕ, ◌+◌, ◌<◌, ◌≤◌, ◌&&◌, false, cond, nat_le, nat_lt, IsSome, Some, OnOk, MatchOption, None};
 ghost use Rattle.std.specs.Ordering.{nat_cmp, is_eq};
 ghost use Rattle.std.specs.BTreeMap.{get};
-ghost use Rattle.udf_claims.specs.Standing.{standing, HasNone, IsNext};
+ghost use Rattle.udf_claims.specs.Standing.{HasNone, IsNext, owner_at, HasKey, SameOwners, SetsOwners, KeepsKeys};
 
 use std::alloc::AllocError;
 use std::collections::BTreeMap;
@@ -13,7 +13,7 @@ pub(crate) type Steps = BTreeMap<u64, Option<u64>>;
 
 /// The value of a number.
 pub(crate) fn value_at(steps: &Steps, x: u64) -> Option<u64>
-    ensures { result ≡ standing (get nat_cmp steps.now) None x }
+    ensures { result ≡ owner_at steps.now x }
 {
     match steps.range(..=x).next_back() {
         None => None,
@@ -23,9 +23,9 @@ pub(crate) fn value_at(steps: &Steps, x: u64) -> Option<u64>
 
 /// Makes a number a key, which changes no value.
 pub(crate) fn cut(steps: &mut Steps, x: u64) -> Result<(), AllocError>
-    ensures same { (q : ℕ) → standing (get nat_cmp steps.new) None q ≡ standing (get nat_cmp steps.old) None q }
-    ensures here { OnOk result (IsSome (get nat_cmp steps.new x)) }
-    ensures there { (q : ℕ) → IsSome (get nat_cmp steps.old q) → IsSome (get nat_cmp steps.new q) }
+    ensures same { SameOwners steps.old steps.new }
+    ensures here { OnOk result (HasKey steps.new x) }
+    ensures there { KeepsKeys steps.old steps.new 0 }
 {
     let owner = value_at(steps, x);
     steps.insert(x, owner)?;
@@ -48,8 +48,8 @@ pub(crate) fn change_after(steps: &Steps, x: u64, to: u64) -> u64
     requires { x < to }
     ensures after { x < result }
     ensures end { result ≤ to }
-    ensures same { (q : ℕ) → x ≤ q → q < result → standing (get nat_cmp steps.now) None q ≡ standing (get nat_cmp steps.now) None x }
-    ensures key { IsSome (get nat_cmp steps.now to) → IsSome (get nat_cmp steps.now result) }
+    ensures same { (q : ℕ) → x ≤ q → q < result → owner_at steps.now q ≡ owner_at steps.now x }
+    ensures key { HasKey steps.now to → HasKey steps.now result }
 {
     match next_key(steps, x + 1, to) {
         Some(key) => key,
@@ -79,7 +79,7 @@ fn clear(steps: &mut Steps, from: u64, to: u64)
 
 // Gives a key a value, in place.
 fn set(steps: &mut Steps, key: u64, owner: Option<u64>)
-    requires { IsSome (get nat_cmp steps.old key) }
+    requires { HasKey steps.old key }
     ensures { (q : ℕ) → get nat_cmp steps.new q ≡ cond (is_eq (nat_cmp key q)) (Some owner) (get nat_cmp steps.old q) }
 {
     if let Some(held) = steps.get_mut(&key) {
@@ -90,10 +90,10 @@ fn set(steps: &mut Steps, key: u64, owner: Option<u64>)
 /// Gives the numbers from one key on, below another, a value. It takes no memory.
 pub(crate) fn put(steps: &mut Steps, from: u64, to: u64, owner: Option<u64>)
     requires forward { from < to }
-    requires first { IsSome (get nat_cmp steps.old from) }
-    requires end { IsSome (get nat_cmp steps.old to) }
-    ensures value { (q : ℕ) → standing (get nat_cmp steps.new) None q ≡ cond (nat_le from q && nat_lt q to) owner (standing (get nat_cmp steps.old) None q) }
-    ensures keys { (q : ℕ) → to ≤ q → IsSome (get nat_cmp steps.old q) → IsSome (get nat_cmp steps.new q) }
+    requires first { HasKey steps.old from }
+    requires end { HasKey steps.old to }
+    ensures value { SetsOwners steps.old steps.new from to (λ _. owner) }
+    ensures keys { KeepsKeys steps.old steps.new to }
 {
     clear(steps, from + 1, to);
     set(steps, from, owner);
@@ -101,8 +101,8 @@ pub(crate) fn put(steps: &mut Steps, from: u64, to: u64, owner: Option<u64>)
 
 /// Takes a key away that has the value of the number before it, which changes no value. So equal neighbours are one.
 pub(crate) fn join(steps: &mut Steps, x: u64)
-    ensures same { (q : ℕ) → standing (get nat_cmp steps.new) None q ≡ standing (get nat_cmp steps.old) None q }
-    ensures keys { (q : ℕ) → x < q → IsSome (get nat_cmp steps.old q) → IsSome (get nat_cmp steps.new q) }
+    ensures same { SameOwners steps.old steps.new }
+    ensures keys { KeepsKeys steps.old steps.new (x + 1) }
 {
     if x > 0 && value_at(steps, x - 1) == value_at(steps, x) {
         remove(steps, x);

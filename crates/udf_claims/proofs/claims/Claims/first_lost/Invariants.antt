@@ -4,7 +4,11 @@ use Rattle.udf_claims.specs.Winner.{wins}
 use Rattle.udf_claims.proofs.claims.Claims.first_lost.Given as goal
 
 abbrev pub invariant-loop-next : goal.invariant-loop-next
-invariant-loop-next l = (l.from ≤ l.next) × (l.next ≤ l.to) × AllPassAt (wins l.self l.owner) l.from l.next
+invariant-loop-next l = record {
+  low : l.from ≤ l.next;
+  high : l.next ≤ l.to;
+  passed : AllPassAt (wins l.self l.owner) l.from l.next;
+}
 
 abbrev pub decreases-loop-next : goal.decreases-loop-next
 decreases-loop-next l = l.to - l.next
