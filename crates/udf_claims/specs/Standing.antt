@@ -21,7 +21,7 @@ module _ {X : Type 0} where
     pub here : IsSome (f key)
     pub none : (q : ℕ) → lo ≤ q → q < key → f q ≡ None
 
--- the owner of a number, or nobody
+-- the owner of a number, if any
 abbrev pub owner_at : BTreeMap ℕ (Option ℕ) → ℕ → Option ℕ
 owner_at steps x = standing (get nat_cmp steps) None x
 

@@ -3,7 +3,7 @@ use Rattle.std.specs.Prelude.{Bool, true, false, ◌≡◌, ℕ, ◌<◌, ◌≤
 use Rattle.udf_field.specs.declared.address.Addr.{Addr}
 use Rattle.udf_claims.specs.Winner.{number}
 
--- each number from lo on, below hi, passes
+-- each number from lo on and below hi passes
 abbrev pub AllPass : (ℕ → Bool) → ℕ → ℕ → Type 0
 AllPass p lo hi = (q : ℕ) → lo ≤ q → q < hi → p q ≡ true
 

@@ -18,6 +18,7 @@ use udf_field::Addr;
 /// Wants of addresses. A contract sees them as the list of the runs that were added, in order.
 #[derive(Drop)]
 pub struct Claims {
+    // What contracts see. No code reads it, but the runs could not be told from the maps.
     added: Vec<Run>,
 
     // By class and address: the owner that wanted it last, and the one that wants it alone.
@@ -74,8 +75,9 @@ impl Claims {
         }
     }
 
-    /// Adds an owner's wants of a run of blocks. Its cost is that of a few look-ups, over all calls, however the runs
-    /// lie to one another.
+    /// Adds an owner's wants of a run of blocks, all of one class. Any number from 0 to 2^64 - 1 names an owner, and a
+    /// lower class is stronger. The last block that a part may have, 2^32 - 1, is in no run. `NoMemory` where there is
+    /// none for the run. However n runs overlap, n calls take n log n.
     pub fn add(&mut self, owner: u64, at: Addr, blocks: u32, class: u8) -> Result<(), NoMemory>
         requires { at.block + blocks < 2 ^ 32 }
         ensures ok { OnOk result (self.new ≡ self.old ++ record { owner = owner; at = at; blocks = blocks; class = class } ∷ []) }
@@ -95,7 +97,8 @@ impl Claims {
         Ok(())
     }
 
-    /// The owner that wins an address.
+    /// The owner that wins an address: it wants it, nobody wants it in a lower class, and no other owner in that class.
+    /// A call takes a few look-ups for each class up to the least that wants the address.
     pub fn winner(&self, at: Addr) -> Option<u64>
         ensures { (owner : ℕ) → IsTrue (wins self.now owner at) ↔ (result ≡ Some owner) }
     {
@@ -103,7 +106,8 @@ impl Claims {
         champion_of(self.piece(x, x + 1).best)
     }
 
-    /// The first block of a run that the owner does not win, by its place in the run.
+    /// The first block of a run that the owner does not win, counted from the start of the run. A call takes a few
+    /// look-ups for each piece of the run up to that block, whatever the pieces' lengths.
     pub fn lost(&self, owner: u64, at: Addr, blocks: u32) -> Option<u32>
         requires { at.block + blocks < 2 ^ 32 }
         ensures { MatchOption result (AllPass (wins_block self.now owner at) 0 blocks) (IsFirstFailure (wins_block self.now owner at) 0 blocks) }
@@ -115,7 +119,8 @@ impl Claims {
         }
     }
 
-    /// The first claimed blocks from an address on, up to where the claims end or the part does.
+    /// The first claimed blocks from an address on, in the order of addresses: all that follow on one another. A walk
+    /// goes on from where they end, which is an address of the same part.
     pub fn claimed_from(&self, at: Addr) -> Option<Claimed>
         ensures { MatchOption result (IsUnclaimedFrom self.now at) (IsNextClaimed self.now at) }
     {
