@@ -148,6 +148,10 @@ PROGRAM
 
 cd "$work/crates/claims_bench"
 rt run >"$work/log" 2>&1 || { cat "$work/log"; exit 1; }
+timer=
+if [ -x /usr/bin/time ]; then
+    timer='/usr/bin/time -f peak:%MkB'
+fi
 for case in ${*:-apart touching cut shared repeated shifted}; do
-    out/claims_bench "$case"
+    $timer out/claims_bench "$case"
 done
