@@ -24,7 +24,8 @@ const TABLE: &str = "1023 2423 = 11..22....
 1013 2113 1213 2313 1053 = 1.1.1.....
 1093 2913 = 1111111112
 5503 = ..........
-6503 = ..........";
+6503 = ..........
+";
 
 fn digit(byte: u8) -> u8
     ensures { result < 16 }
@@ -60,15 +61,71 @@ fn claims_of(alloc: Global, runs: &str, first: u32) -> Result<Claims, NoMemory>
 }
 
 // Who wins each of ten blocks.
-fn drawn(alloc: Global, claims: &Claims, first: u32) -> Result<String, NoMemory>
+fn draw(text: &mut String, claims: &Claims, first: u32) -> Result<(), NoMemory>
     requires { first + 10 < 2 ^ 32 }
 {
-    let mut text = String::new(alloc);
     for i in 0u32..10 {
         match claims.winner(block(7, first + i)) {
             Some(owner) => text.push((b'0' + (owner % 10) as u8) as char)?,
             None => text.push('.')?,
         }
+    }
+    text.push('\n')
+}
+
+// A line of the table with the winners that the claims tell.
+fn redraw(text: &mut String, alloc: Global, line: &str, first: u32) -> Result<(), NoMemory>
+    requires { first + 10 < 2 ^ 32 }
+{
+    let runs = line.split_once(" = ").map_or(line, |parts| parts.0);
+    let claims = claims_of(alloc, runs, first)?;
+    text.push_str(runs)?;
+    text.push_str(" = ")?;
+    draw(text, &claims, first)
+}
+
+fn redrawn(alloc: Global, first: u32) -> Result<String, NoMemory>
+    requires { first + 10 < 2 ^ 32 }
+{
+    let mut text = String::new(alloc);
+    for line in TABLE.lines() {
+        redraw(&mut text, alloc, line, first)?;
+    }
+    Ok(text)
+}
+
+// The first of two blocks that an owner loses, from each of ten blocks on.
+fn losses(alloc: Global, claims: &Claims, owner: u64) -> Result<String, NoMemory> {
+    let mut text = String::new(alloc);
+    for i in 0u32..10 {
+        match claims.lost(owner, block(7, i), 2) {
+            Some(place) => text.push((b'0' + (place % 10) as u8) as char)?,
+            None => text.push('-')?,
+        }
+    }
+    Ok(text)
+}
+
+fn push_digit(text: &mut String, number: u32) -> Result<(), NoMemory> {
+    text.push((b'0' + (number % 10) as u8) as char)
+}
+
+// The next claimed blocks: where they begin, and how many they are.
+fn push_stretch(text: &mut String, next: Option<Claimed>) -> Result<(), NoMemory> {
+    match next {
+        Some(next) => {
+            push_digit(text, next.at.block)?;
+            push_digit(text, next.blocks)
+        }
+        None => text.push('-'),
+    }
+}
+
+// The same from each of eleven blocks on.
+fn stretches(alloc: Global, claims: &Claims) -> Result<String, NoMemory> {
+    let mut text = String::new(alloc);
+    for i in 0u32..11 {
+        push_stretch(&mut text, claims.claimed_from(block(7, i)))?;
     }
     Ok(text)
 }
@@ -76,40 +133,26 @@ fn drawn(alloc: Global, claims: &Claims, first: u32) -> Result<String, NoMemory>
 // At the first blocks of a part, and at the last ones that a run can hold.
 #[test]
 fn least_class_wins(rt: HostRuntime) -> Result<(), Fail> {
-    for line in TABLE.lines() {
-        let (runs, winners) = line.split_once(" = ").ok_or("no winners")?;
-        let low = claims_of(rt.alloc(), runs, 0)?;
-        assert_eq!(rt; drawn(rt.alloc(), &low, 0)?.as_str(), winners, "{line}");
-        let high = claims_of(rt.alloc(), runs, 4_294_967_285)?;
-        assert_eq!(rt;
-            drawn(rt.alloc(), &high, 4_294_967_285)?.as_str(),
-            winners,
-            "{line}"
-        );
-    }
+    assert_eq!(rt; redrawn(rt.alloc(), 0)?.as_str(), TABLE);
+    assert_eq!(rt; redrawn(rt.alloc(), 4_294_967_285)?.as_str(), TABLE);
     Ok(())
 }
 
 #[test]
 fn lost_and_claimed(rt: HostRuntime) -> Result<(), Fail> {
     let claims = claims_of(rt.alloc(), "1063 2243 1421 3913", 0)?;
-    assert_eq!(rt; claims.lost(1, block(7, 0), 6), Some(2));
-    assert_eq!(rt; claims.lost(1, block(7, 4), 2), None);
-    assert_eq!(rt; claims.lost(1, block(6, 0), 1), Some(0));
+    assert_eq!(rt; losses(rt.alloc(), &claims, 1)?.as_str(), "-100-10000");
     assert_eq!(rt;
-        claims.claimed_from(block(6, 4_294_967_295)),
+        stretches(rt.alloc(), &claims)?.as_str(),
+        "06152433425191919191-"
+    );
+    let next = claims.claimed_from(block(6, 4_294_967_295));
+    assert_eq!(rt;
+        next,
         Some(Claimed {
             at: block(7, 0),
             blocks: 6
         })
     );
-    assert_eq!(rt;
-        claims.claimed_from(block(7, 6)),
-        Some(Claimed {
-            at: block(7, 9),
-            blocks: 1
-        })
-    );
-    assert_eq!(rt; claims.claimed_from(block(7, 10)), None);
     Ok(())
 }
