@@ -1,0 +1,5 @@
+pub mod Sharing
+pub mod Standing
+pub mod Telling
+pub mod Walks
+pub mod Winning
