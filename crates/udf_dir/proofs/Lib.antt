@@ -1,0 +1,5 @@
+pub mod Lengths
+pub mod Bits
+pub mod Tests
+pub mod Steps
+pub mod Wholes

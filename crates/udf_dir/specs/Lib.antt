@@ -1,0 +1,2 @@
+-- What the calls of this crate answer, where one definition of files does not say it.
+pub mod First

@@ -1,0 +1,4 @@
+pub mod Fids
+pub mod Scanned
+pub mod Greedy
+pub mod Names

@@ -1,0 +1,5 @@
+-- The definitions of files.
+pub mod Fid
+pub mod Scan
+pub mod Pack
+pub mod Name
