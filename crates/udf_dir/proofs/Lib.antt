@@ -3,3 +3,5 @@ pub mod Bits
 pub mod Tests
 pub mod Steps
 pub mod Wholes
+pub mod Ordered
+pub mod Packs

@@ -110,7 +110,7 @@ impl<'a> Fid<'a> {
 
 // The length that the FID at the front of some bytes has by its own fields.
 #[tactic(auto, using(crate::proofs::Lengths::length_is))]
-fn length_of(bytes: &[u8]) -> usize
+pub(crate) fn length_of(bytes: &[u8]) -> usize
     requires { 38 ≤ length bytes.now }
     ensures { result ≡ fid_length bytes.now }
 {

@@ -4,12 +4,19 @@
 //! `bitflags`.
 #![tactic(auto)]
 
+mod canonical;
 mod content;
 mod fid;
 mod marks;
+mod packed;
+mod same;
 mod scanner;
 
+pub use canonical::{CanonicalName, canonical_name};
 pub use content::{is_whole, scan};
 pub use fid::Fid;
 pub use marks::Marks;
+pub use packed::{Packed, pack};
+pub use same::same_name;
 pub use scanner::Scan;
+pub use udf_text::NoMemory;

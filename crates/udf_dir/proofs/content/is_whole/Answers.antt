@@ -19,9 +19,9 @@ loop-fid-preserved c =
     let behind = c.split_at.ensures.back ∙ ap (λ (xs : List ℕ). drop (length xs) c.loop-fid.rest.now) c.bytes.ensures in
     record {
       forth = λ h. c.loop-fid.invariant.forth
-        (whole_back c.args.size c.loop-fid.rest.now c.in-Some.fid c.split_at.result.1.now (sym c.in-Some.ensures) behind h);
+          (whole_back c.args.size c.loop-fid.rest.now c.in-Some.fid c.split_at.result.1.now (sym c.in-Some.ensures) behind h);
       back = λ h. whole_on c.args.size c.loop-fid.rest.now c.in-Some.fid c.split_at.result.1.now (sym c.in-Some.ensures) behind
-        (c.loop-fid.invariant.back h);
+          (c.loop-fid.invariant.back h);
     }
 
 pub returns : goal.returns

@@ -13,6 +13,12 @@ split_at-requires c =
 
 pub split_at-requires-2 : goal.split_at-requires-2
 split_at-requires-2 c =
-    omega
-    (arith, name_room c.self.inside.bytes.now c.self.invariant, c.u16_at.ensures, c.u8_at.ensures, c.split_at.ensures.back_len,
-    ap (λ (xs : List ℕ). number_at 2 xs 36) c.over-fields.ensures, ap (λ (xs : List ℕ). get_or xs 19 0) c.over-fields.ensures)
+    omega (
+      arith,
+      name_room c.self.inside.bytes.now c.self.invariant,
+      c.u16_at.ensures,
+      c.u8_at.ensures,
+      c.split_at.ensures.back_len,
+      ap (λ (xs : List ℕ). number_at 2 xs 36) c.over-fields.ensures,
+      ap (λ (xs : List ℕ). get_or xs 19 0) c.over-fields.ensures,
+    )
