@@ -119,3 +119,11 @@ pub parent_not_live : (fid : List ℕ) → is_parent fid ≡ true → is_live fi
 unfolding is_live
 parent_not_live fid h =
     ap (λ p. not (is_deleted fid) && (not p && (nat_lt 0 (name_length fid) && not ((target fid).length == 0)))) h ∙ and-false (not (is_deleted fid))
+
+-- where the bytes of a FID stand in another content, it is found there
+pub found_by_bytes : (size at : ℕ) (content other fid : List ℕ) → fid_at size (drop at content) ≡ Some fid
+    → take (length fid) (drop at other) ≡ fid → fid_at size (drop at other) ≡ Some fid
+found_by_bytes size at content other fid found same =
+    ap (fid_at size)
+    (sym (take-append-drop (length fid) (drop at other)) ∙ ap (λ xs. xs ++ drop (length fid) (drop at other)) same)
+    ∙ fid_found size fid (drop (length fid) (drop at other)) (found_begins size (drop at content) fid found).is

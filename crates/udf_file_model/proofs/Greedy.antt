@@ -42,6 +42,12 @@ pairs o (p ∷ ps) r i zero d h k = absurd (omega arith)
 pairs o (p ∷ ps) r zero (suc j) d h k = above (p.0 + length p.1) ps j d r.1 (omega arith)
 pairs o (p ∷ ps) r (suc i) (suc j) d h k = pairs (p.0 + length p.1) ps r.1 i j d (omega arith) (omega arith)
 
+ordered_from : (o : ℕ) (ps : List Placed) → ((k : ℕ) (d : Placed) → k < length ps → o ≤ (get_or ps k d).0)
+    → AllPairs (λ p q. p.0 + length p.1 ≤ q.0) ps → Ordered o ps
+ordered_from o [] h r = tt
+ordered_from o (p ∷ ps) h r =
+    (h 0 p (omega arith), ordered_from (p.0 + length p.1) ps (λ k d l. r 0 (suc k) d (omega arith) (omega arith)) (λ i j d a b. r (suc i) (suc j) d (omega arith) (omega arith)))
+
 same_placed : (x y : ℕ) (f g : List ℕ) → x ≡ y → f ≡ g → ◌≡◌ {A = Placed} (x, f) (y, g)
 same_placed x y f g e h = ap (λ z. let t : Placed = (z, f) in t) e ∙ ap (λ z. let t : Placed = (y, z) in t) h
 
@@ -123,3 +129,82 @@ module _ (size : ℕ) (content : List ℕ) where
     apart = pairs 0 (fids size content) (in_order size 0 0 content);
     complete = λ o f k b. all_taken 0 0 content refl refl o f (omega arith) k b;
   }
+
+  -- and it is the one such list
+  abbrev IsComplete : ℕ → List Placed → Type 0
+  IsComplete o ps = (x : ℕ) (f : List ℕ) → o ≤ x → x % 4 ≡ 0 → Begins size (drop x content) f → IsTaken x f ps
+
+  none_left : (at n : ℕ) (ps : List Placed) → length content ≤ at → AllByRecursion Stands ps → Ordered (at + n) ps → [] ≡ ps
+  none_left at n [] h s r = refl
+  none_left at n (p ∷ ps) h s r = absurd (none_past p.0 p.1 (omega (arith, r.0)) (s.0).1)
+
+  -- where no FID begins, the first listed one stands four bytes later or behind
+  skipped : (at : ℕ) (ps : List Placed) → at % 4 ≡ 0 → fid_at size (drop at content) ≡ None → AllByRecursion Stands ps → Ordered (at + 0) ps → Ordered (suc at + 3) ps
+  skipped at [] m none s r = tt
+  skipped at (p ∷ ps) m none s r = (by (cases_lt p.0 (at + 4)), r.1)
+    where
+      by : (p.0 < at + 4) ⊎ (at + 4 ≤ p.0) → suc at + 3 ≤ p.0
+      by (inr l) = omega arith
+      by (inl l) =
+          let here : p.0 ≡ at = omega (arith, r.0, (s.0).0) in
+          absurd (clash p.1 (sym none ∙ ap (λ k. fid_at size (drop k content)) (sym here) ∙ begins_found size (drop p.0 content) p.1 (s.0).1))
+
+  none_in : (x : ℕ) (f : List ℕ) → IsTaken x f [] → ⊥
+  none_in x f (inl (k, h, e)) = omega arith
+  none_in x f (inr (k, y, h, e, w)) = omega arith
+
+  -- the FID that begins at the first offset is listed first
+  first_listed : (at : ℕ) (g : List ℕ) (p : Placed) (ps : List Placed) → 0 < length p.1 → Ordered (at + 0) (p ∷ ps) → IsTaken at g (p ∷ ps) → ◌≡◌ {A = Placed} p (at, g)
+  first_listed at g p ps l r (inl (zero, h, e)) = e
+  first_listed at g p ps l r (inl (suc k, h, e)) =
+      absurd (let a = above (p.0 + length p.1) ps k (at, g) r.1 (omega arith) in let n = ap (λ (z : Placed). z.0) e in omega (arith, r.0))
+  first_listed at g p ps l r (inr (k, y, h, e, w)) =
+      absurd (let a = above (at + 0) (p ∷ ps) k y r h in let n = ap (λ (z : Placed). z.0) e in omega (arith, w.0))
+
+  behind : (x : ℕ) (f : List ℕ) (p : Placed) (ps : List Placed) → 0 < length p.1 → p.0 + length p.1 ≤ x → IsTaken x f (p ∷ ps) → IsTaken x f ps
+  behind x f p ps l h (inl (zero, k, e)) = absurd (let n = ap (λ (z : Placed). z.0) e in omega arith)
+  behind x f p ps l h (inl (suc j, k, e)) = inl (j, omega arith, e)
+  behind x f p ps l h (inr (zero, y, k, e, w)) = absurd (let n = ap (λ (z : Placed). z.0 + length z.1) e in omega (arith, w.1))
+  behind x f p ps l h (inr (suc j, y, k, e, w)) = inr (j, y, omega arith, e, w)
+
+  one_list : (at n : ℕ) (bytes : List ℕ) → bytes ≡ drop at content → (at + n) % 4 ≡ 0
+      → (ps : List Placed) → AllByRecursion Stands ps → Ordered (at + n) ps → IsComplete (at + n) ps → fids_from size at n bytes ≡ ps
+  unfolding fids_from taken
+  one_list at zero [] e m ps s r all = none_left at zero ps (omega (arith, ap length e, length-drop at content)) s r
+  one_list at (suc n) [] e m ps s r all = none_left at (suc n) ps (omega (arith, ap length e, length-drop at content)) s r
+  one_list at (suc n) (byte ∷ bytes) e m ps s r all =
+      one_list (suc at) n bytes (on at byte bytes e) (omega arith) ps s (lower (at + suc n) (suc at + n) ps (omega arith) r)
+      (λ x f h. all x f (omega arith))
+  one_list at zero (byte ∷ bytes) e m ps s r all =
+      by (fid_at size (byte ∷ bytes)) refl ps s r all (λ n. one_list (suc at) n bytes (on at byte bytes e))
+    where
+      by : (q : Option (List ℕ)) → fid_at size (byte ∷ bytes) ≡ q
+          → (qs : List Placed) → AllByRecursion Stands qs → Ordered (at + 0) qs → IsComplete (at + 0) qs
+          → ((n : ℕ) → (suc at + n) % 4 ≡ 0 → (rs : List Placed) → AllByRecursion Stands rs → Ordered (suc at + n) rs → IsComplete (suc at + n) rs
+            → fids_from size (suc at) n bytes ≡ rs)
+          → taken at q (λ n. fids_from size (suc at) n bytes) ≡ qs
+      by None found qs t o c rest =
+          rest 3 (omega arith) qs t (skipped at qs (omega arith) (ap (fid_at size) (sym e) ∙ found) t o) (λ x f h. c x f (omega arith))
+      by (Some g) found [] t o c rest =
+          absurd (none_in at g (c at g (omega arith) (omega arith) (subst (λ xs. Begins size xs g) e (found_begins size (byte ∷ bytes) g found))))
+      by (Some g) found (p ∷ qs) t o c rest =
+          ap (λ (z : Placed). z ∷ fids_from size (suc at) (length g - 1) bytes) (sym same)
+          ∙ ap (λ (zs : List Placed). p ∷ zs)
+          (rest (length g - 1) (omega (arith, is_by_four size g g_begins.is, is_long size g g_begins.is)) qs t.1 (lower (p.0 + length p.1) (suc at + (length g - 1)) qs (omega (arith, starts, long, p_some)) o.1)
+          (λ x f h k b. behind x f p qs p_some (omega (arith, starts, long, p_some)) (c x f (omega (arith, is_long size g g_begins.is)) k b)))
+        where
+          g_begins : Begins size (byte ∷ bytes) g
+          g_begins = found_begins size (byte ∷ bytes) g found
+          p_some : 0 < length p.1
+          p_some = omega (arith, is_long size p.1 ((t.0).1).is)
+          same : ◌≡◌ {A = Placed} p (at, g)
+          same = first_listed at g p qs p_some o (c at g (omega arith) (omega arith) (subst (λ xs. Begins size xs g) e g_begins))
+          starts : p.0 ≡ at
+          starts = ap (λ (z : Placed). z.0) same
+          long : length p.1 ≡ length g
+          long = ap (λ (z : Placed). length z.1) same
+
+  pub only_scan : (list : List Placed) → IsScan size content list → list ≡ fids size content
+  only_scan list is =
+      sym (one_list 0 0 content refl refl list (recursion_from_All Stands list is.whole)
+      (ordered_from 0 list (λ k d h. omega arith) is.apart) (λ x f h k b. is.complete x f k b))

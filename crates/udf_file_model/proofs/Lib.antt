@@ -1,4 +1,6 @@
 pub mod Fids
 pub mod Scanned
 pub mod Greedy
+pub mod Listed
+pub mod Packings
 pub mod Names

@@ -1,9 +1,13 @@
 -- Names that are the same, by what tells them apart.
-use Rattle.std.proofs.Common.{◌≡◌, ℕ, ◌⊎◌, inl, inr, List, refl, sym, ◌∙◌, ap}
+use Rattle.std.proofs.Common.{◌≡◌, ℕ, true, ◌⊎◌, inl, inr, List, refl, sym, ◌∙◌, ap}
 use Rattle.std.specs.Prelude.{Result, Ok, Err}
 use Rattle.udf_text.specs.Compressed.{decoding}
 use Rattle.udf_text.specs.declared.fault.TextFault.{TextFault}
-use Rattle.udf_file_model.specs.Name.{DecodeAlike, IsSameName, Canonical, Characters, Undecoded, canonical_by, canonical}
+use Rattle.udf_file_model.specs.Name.{DecodeAlike, IsSameName, Canonical, Characters, Undecoded, canonical_by, canonical, canonical_key, canonical_cmp}
+use Rattle.std.specs.Ordering.{is_eq}
+use Rattle.std.specs.Cmp.Lexicographic.{bytes_decides, texts_ties}
+use Rattle.std.specs.declared.cmp.Ordering.{Ordering}
+use Rattle.std.specs.declared.cmp.Ordering.TheVariants.{Less, Equal, Greater}
 
 pub same_canonical : (a b : List ℕ) → IsSameName a b → canonical a ≡ canonical b
 unfolding canonical
@@ -21,3 +25,26 @@ canonical_same a b e = choose (decoding a) (decoding b) refl refl e
     choose (Ok x) (Err f) p q h = cc
     choose (Err f) (Ok y) p q h = cc
     choose (Err f) (Err g) p q h = inl (cc)
+
+same_key : (a b : Canonical) → canonical_key a ≡ canonical_key b → a ≡ b
+unfolding canonical_key
+same_key (Characters x) (Characters y) e = cc
+same_key (Characters x) (Undecoded y) e = cc
+same_key (Undecoded x) (Characters y) e = cc
+same_key (Undecoded x) (Undecoded y) e = cc
+
+-- the order tells names apart
+pub equal_names : (a b : Canonical) → canonical_cmp a b ≡ Equal → a ≡ b
+equal_names a b e =
+    same_key a b
+    ((bytes_decides (canonical_key a) (canonical_key b)).0 (texts_ties (canonical_key a) (canonical_key b) ∙ ap is_eq e))
+
+ties : (o : Ordering) → is_eq o ≡ true → o ≡ Equal
+ties Less e = cc
+ties Equal e = refl
+ties Greater e = cc
+
+pub same_order : (a b : Canonical) → a ≡ b → canonical_cmp a b ≡ Equal
+same_order a b e =
+    ties (canonical_cmp a b)
+    (sym (texts_ties (canonical_key a) (canonical_key b)) ∙ (bytes_decides (canonical_key a) (canonical_key b)).1 (ap canonical_key e))

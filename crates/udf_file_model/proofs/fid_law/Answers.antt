@@ -1,5 +1,5 @@
 -- What is found begins the bytes, and the other way round.
-use Rattle.udf_file_model.proofs.Fids.{found_begins, begins_found, fid_found, is_long, is_by_four, parent_not_live}
+use Rattle.udf_file_model.proofs.Fids.{found_begins, begins_found, fid_found, is_long, is_by_four, parent_not_live, found_by_bytes}
 use Rattle.udf_file_model.proofs.fid_law.Goals as goal
 
 pub returns-clause-found : goal.returns-clause-found
@@ -13,3 +13,6 @@ returns-clause-long c = λ size fid is. (is_long size fid is, is_by_four size fi
 
 pub returns-clause-apart : goal.returns-clause-apart
 returns-clause-apart c = parent_not_live
+
+pub returns-clause-same_bytes : goal.returns-clause-same_bytes
+returns-clause-same_bytes c = found_by_bytes
