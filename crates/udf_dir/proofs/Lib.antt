@@ -1,6 +1,6 @@
 pub mod Lengths
 pub mod Bits
-pub mod Tests
+pub mod Beginning
 pub mod Steps
 pub mod Wholes
 pub mod Ordered

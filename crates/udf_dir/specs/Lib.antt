@@ -1,3 +1,4 @@
--- What the calls of this crate answer, where one definition of files does not say it.
+-- What the calls and types of this crate show, where one definition of files does not say it.
+pub mod Bits
 pub mod First
 pub mod Spelled

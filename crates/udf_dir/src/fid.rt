@@ -2,6 +2,7 @@
 ghost use Rattle.std.specs.Prelude.{◌≡◌, ◌≤◌, length};
 ghost use Rattle.udf_model.specs.Tag.{is_id};
 ghost use Rattle.udf_model.specs.Tag.{whole_id as id_of_whole};
+ghost use Rattle.udf_dir.specs.Bits.{bits_of};
 ghost use Rattle.udf_file_model.specs.Fid.{begins_with_fid, characteristics, fid_at, fid_length, has_parent_bit, is_deleted, is_live, is_parent, name, target};
 
 use crate::Marks;
@@ -52,7 +53,7 @@ impl<'a> Fid<'a> {
 
     /// The file characteristics (ECMA-167 4/14.4.3).
     pub fn marks(&self) -> Marks
-        ensures { result.0 ≡ characteristics self.now }
+        ensures { bits_of result ≡ characteristics self.now }
     {
         Marks::from_bits_retain(self.bytes[MARKS_AT])
     }
@@ -130,7 +131,7 @@ fn is_tagged(bytes: &[u8]) -> bool
 }
 
 // Whether a whole FID of at most `size` bytes begins some bytes.
-#[tactic(auto, using(crate::proofs::Tests::too_short, crate::proofs::Tests::past_end, crate::proofs::Tests::past_block, crate::proofs::Tests::tag_decides))]
+#[tactic(auto, using(crate::proofs::Beginning::too_short, crate::proofs::Beginning::past_end, crate::proofs::Beginning::past_block, crate::proofs::Beginning::tag_decides))]
 fn begins_with_fid(bytes: &[u8], size: u32) -> bool
     ensures { result ≡ begins_with_fid size bytes.now }
 {

@@ -20,3 +20,6 @@ pub use packed::{Packed, pack};
 pub use same::same_name;
 pub use scanner::Scan;
 pub use udf_text::NoMemory;
+
+#[cfg(test)]
+mod tests;

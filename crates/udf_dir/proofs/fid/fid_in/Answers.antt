@@ -1,7 +1,7 @@
 -- Where a FID begins, it is in the bytes.
 use Rattle.std.proofs.Common.{◌≡◌, arith, sym, ◌∙◌, ap, length}
 use Rattle.udf_file_model.specs.Fid.{fid_length}
-use Rattle.udf_dir.proofs.Tests.{begins_within, begins_long, cut_length, fid_there, none_there}
+use Rattle.udf_dir.proofs.Beginning.{begins_within, begins_long, cut_length, fid_there, none_there}
 use Rattle.udf_dir.proofs.fid.fid_in.Goals as goal
 
 pub length_of-requires : goal.length_of-requires
