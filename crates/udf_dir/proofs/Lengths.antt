@@ -1,5 +1,5 @@
 -- What a FID has room for.
-use Rattle.std.proofs.Common.{◌≡◌, ℕ, ◌+◌, ◌≤◌, ◌*◌, ◌/◌, arith, List, length, get_or, refl, ◌∙◌, ap, sym}
+use Rattle.std.proofs.Common.{◌≡◌, ℕ, ◌+◌, ◌≤◌, ◌*◌, ◌/◌, arith, List, length, get_or, ◌∙◌, ap}
 use Rattle.udf_model.specs.Bytes.{number_at}
 use Rattle.udf_file_model.specs.Fid.{fid_length}
 use Rattle.udf_file_model.proofs.Fids.{least}

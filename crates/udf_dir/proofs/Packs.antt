@@ -1,13 +1,12 @@
 -- Packing, FID by FID.
-use Rattle.std.proofs.Common.{◌≡◌, ℕ, zero, suc, ◌+◌, ◌-◌, ◌<◌, ◌≤◌, List, [], ◌∷◌, ◌++◌, length, take, drop, map, get_or, arith, refl, sym, ◌∙◌, ap, length-append}
+use Rattle.std.proofs.Common.{◌≡◌, ℕ, zero, suc, ◌+◌, ◌-◌, ◌<◌, ◌≤◌, List, [], ◌∷◌, ◌++◌, length, take, drop, get_or, arith, refl, sym, ◌∙◌, ap, length-append}
 use Rattle.std.specs.Prelude.{All, Contains}
-use Rattle.std.specs.List.{concat}
-use Rattle.std.proofs.lemmas.List.{take_more, append_assoc, append-nil, length-map, get_or-map, take_all}
+use Rattle.std.proofs.lemmas.List.{take_more, append_assoc, append-nil, length-map, get_or-map}
 use Rattle.std.proofs.lemmas.List.{length-drop}
 use Rattle.std.proofs.lemmas.List.Elements.{All-contains, All-map, All-weaker}
 use Rattle.udf_file_model.specs.Fid.{fid_bytes, fid_length, Begins}
 use Rattle.udf_file_model.specs.Scan.{fids, offsets}
-use Rattle.udf_file_model.specs.Pack.{packed, fids_at, Packing, IsPacking}
+use Rattle.udf_file_model.specs.Pack.{packed, fids_at, IsPacking}
 use Rattle.udf_file_model.proofs.Fids.{is_long, on_length}
 use Rattle.udf_file_model.proofs.Greedy.{Stands, is_scan}
 

@@ -1,7 +1,7 @@
 -- The search for the first FID, step by step.
-use Rattle.std.proofs.Common.{◌≡◌, ℕ, ◌+◌, ◌<◌, ◌≤◌, Option, Some, None, List, [], ◌∷◌, ◌++◌, length, drop, arith, sym, ◌∙◌, ap, refl, length-append, length-drop}
+use Rattle.std.proofs.Common.{◌≡◌, ℕ, ◌+◌, ◌≤◌, Some, None, List, [], ◌∷◌, length, drop, arith, sym, ◌∙◌, ap, refl, length-append, length-drop}
 use Rattle.std.proofs.lemmas.List.{drop-drop, drop_all, drop_at}
-use Rattle.udf_file_model.specs.Fid.{IsFid, Begins, fid_at}
+use Rattle.udf_file_model.specs.Fid.{Begins, fid_at}
 use Rattle.udf_file_model.specs.Scan.{fids_from}
 use Rattle.udf_file_model.proofs.Fids.{found_begins}
 use Rattle.udf_file_model.proofs.Scanned.{at_none, at_fid}

@@ -1,12 +1,12 @@
 -- A whole content, FID by FID.
 use Rattle.std.specs.Prelude.{nat_eq}
-use Rattle.std.proofs.Common.{IsTrue, Bool, true, false, ◌≡◌, ℕ, zero, suc, ◌+◌, ◌-◌, ◌<◌, ◌≤◌, Option, Some, None, List, [], ◌∷◌, ◌++◌, length, drop, map, arith, sym, ◌∙◌, ap, refl, subst, length-append}
+use Rattle.std.proofs.Common.{IsTrue, Bool, true, false, ◌≡◌, ℕ, suc, ◌+◌, ◌<◌, ◌≤◌, Some, None, List, [], ◌∷◌, ◌++◌, length, drop, arith, sym, ◌∙◌, ap, refl, subst, length-append}
 use Rattle.std.proofs.lemmas.Bool.Decides.{nat_tests}
 use Rattle.std.proofs.lemmas.List.{append_cancel_left, drop_at}
 use Rattle.udf_file_model.specs.Fid.{IsFid, Begins, fid_at}
-use Rattle.udf_file_model.specs.Scan.{Placed, taken, fids_from, fids, fids_of}
+use Rattle.udf_file_model.specs.Scan.{fids_from, fids_of}
 use Rattle.udf_file_model.specs.Pack.{packed, IsWholeContent}
-use Rattle.udf_file_model.proofs.Fids.{found_begins, begins_found, is_long}
+use Rattle.udf_file_model.proofs.Fids.{found_begins, is_long}
 use Rattle.udf_file_model.proofs.Scanned.{at_fid, fids_anywhere, first_is}
 
 -- behind a whole FID the rest decides

@@ -1,14 +1,14 @@
 -- The FID that begins some bytes.
-use Rattle.std.proofs.Common.{◌≡◌, ℕ, Bool, true, false, cond, ◌+◌, ◌*◌, ◌/◌, ◌%◌, ◌<◌, ◌≤◌, ◌&&◌, nat_le, Option, Some, None, List, ◌++◌, length, take, drop, get_or, arith, sym, ◌∙◌, ap, refl, subst, length-append}
+use Rattle.std.proofs.Common.{◌≡◌, ℕ, Bool, true, false, cond, ◌+◌, ◌*◌, ◌/◌, ◌%◌, ◌<◌, ◌≤◌, ◌&&◌, nat_le, Option, Some, None, List, ◌++◌, length, take, drop, get_or, arith, sym, ◌∙◌, ap, refl, length-append}
 use Rattle.std.specs.Prelude.{not, nat_lt, ◌==◌}
 use Rattle.std.proofs.Math.Bool.{and-false}
 use Rattle.std.proofs.lemmas.Bool.Decides.{nat_tests}
 use Rattle.std.proofs.lemmas.Bool.{and_from, and_parts}
-use Rattle.std.proofs.lemmas.List.{length-take-le, get_or-take, get_or_append_left, take_at, take_all, take-append-drop}
+use Rattle.std.proofs.lemmas.List.{length-take-le, get_or-take, get_or_append_left, take_at, take-append-drop}
 use Rattle.udf_model.specs.Bytes.{number_at}
 use Rattle.udf_model.specs.Tag.{is_id, whole_id}
 use Rattle.udf_model.proofs.Written.{same_number}
-use Rattle.udf_file_model.specs.Fid.{name_length, use_length, fid_length, fid_bytes, begins_with_fid, fid_at, IsFid, Begins, is_deleted, has_parent_bit, is_parent, is_live, target, name}
+use Rattle.udf_file_model.specs.Fid.{name_length, fid_length, fid_bytes, begins_with_fid, fid_at, IsFid, Begins, is_deleted, is_parent, is_live, target}
 
 pub least : (bytes : List ℕ) → 40 ≤ fid_length bytes
 unfolding fid_length
@@ -81,10 +81,13 @@ found_begins size bytes fid h = choose (begins_with_fid size bytes) refl h
           rest = drop (fid_length bytes) bytes;
           split = sym (take-append-drop (fid_length bytes) bytes) ∙ ap (λ xs. xs ++ drop (fid_length bytes) bytes) e;
         }
+
     same : (x : List ℕ) → Some x ≡ Some fid → x ≡ fid
     same x e = cc
+
     no_some : None ≡ Some fid → Begins size bytes fid
     no_some e = cc
+
     choose : (t : Bool) → begins_with_fid size bytes ≡ t → cond t (Some (fid_bytes bytes)) None ≡ Some fid → Begins size bytes fid
     choose true p e = made (fitting size bytes p) (same (fid_bytes bytes) e)
     choose false p e = no_some e
@@ -103,8 +106,10 @@ fid_found size fid rest is =
   where
     long : fid_length (fid ++ rest) ≡ length fid
     long = on_length fid rest (omega (arith, is_long size fid is)) ∙ sym is.long
+
     front : fid_bytes (fid ++ rest) ≡ fid
     front = take_at fid rest (fid_length (fid ++ rest)) (sym long)
+
     fits : Fits size (fid ++ rest)
     fits = record {
       room = omega (arith, long, length-append fid rest);

@@ -1,9 +1,9 @@
 -- The scan takes each FID that it should, and no other.
-use Rattle.std.proofs.Common.{◌≡◌, ℕ, zero, suc, ◌+◌, ◌-◌, ◌%◌, ◌<◌, ◌≤◌, ◌⊎◌, inl, inr, Option, Some, None, List, [], ◌∷◌, ◌++◌, length, drop, get_or, arith, sym, ◌∙◌, ap, refl, subst, length-append, length-drop}
-use Rattle.std.specs.Prelude.{All, AllPairs, Any, Contains}
+use Rattle.std.proofs.Common.{◌≡◌, ℕ, zero, suc, ◌+◌, ◌-◌, ◌%◌, ◌<◌, ◌≤◌, ◌⊎◌, inl, inr, Option, Some, None, List, [], ◌∷◌, length, drop, get_or, arith, sym, ◌∙◌, ap, refl, subst, length-append, length-drop}
+use Rattle.std.specs.Prelude.{AllPairs, Any, Contains}
 use Rattle.std.specs.List.{AllByRecursion}
 use Rattle.std.proofs.lemmas.Bool.{cases_lt}
-use Rattle.std.proofs.lemmas.List.{drop-drop, drop_all}
+use Rattle.std.proofs.lemmas.List.{drop-drop}
 use Rattle.std.proofs.lemmas.List.Elements.{All-from_recursion, recursion_from_All}
 use Rattle.udf_file_model.specs.Fid.{IsFid, Begins, fid_at}
 use Rattle.udf_file_model.specs.Scan.{Placed, IsScan, taken, fids_from, fids}
@@ -103,6 +103,7 @@ module _ (size : ℕ) (content : List ℕ) where
     where
       here : o ≡ at → fid_at size (byte ∷ bytes) ≡ Some f
       here s = ap (fid_at size) (e ∙ ap (λ j. drop j content) (sym s)) ∙ begins_found size (drop o content) f b
+
       by : (q : Option (List ℕ)) → fid_at size (byte ∷ bytes) ≡ q
           → ((n : ℕ) → (suc at + n) % 4 ≡ 0 → suc at + n ≤ o → IsTaken o f (fids_from size (suc at) n bytes))
           → IsTaken o f (taken at q (λ n. fids_from size (suc at) n bytes))
@@ -115,13 +116,14 @@ module _ (size : ℕ) (content : List ℕ) where
         where
           g_fid : IsFid size g
           g_fid = (found_begins size (byte ∷ bytes) g found).is
+
           same : o ≡ at → ◌≡◌ {A = Placed} (at, g) (o, f)
           same s = same_placed at o g f (sym s) (some g f (sym found ∙ here s))
+
           near : (o < at + length g) ⊎ (at + length g ≤ o) → (at < o) ⊎ (o ≤ at) → IsTaken o f ((at, g) ∷ fids_from size (suc at) (length g - 1) bytes)
           near (inl l) (inl s) = inr (0, (at, g), omega arith, refl, (s, l))
           near (inl l) (inr s) = inl (0, omega arith, same (omega arith))
           near (inr l) s = later o f (at, g) _ (rest (length g - 1) (omega (arith, is_long size g g_fid, is_by_four size g g_fid)) (omega (arith, is_long size g g_fid)))
-
 
   pub is_scan : IsScan size content (fids size content)
   is_scan = record {
@@ -181,7 +183,7 @@ module _ (size : ℕ) (content : List ℕ) where
       by : (q : Option (List ℕ)) → fid_at size (byte ∷ bytes) ≡ q
           → (qs : List Placed) → AllByRecursion Stands qs → Ordered (at + 0) qs → IsComplete (at + 0) qs
           → ((n : ℕ) → (suc at + n) % 4 ≡ 0 → (rs : List Placed) → AllByRecursion Stands rs → Ordered (suc at + n) rs → IsComplete (suc at + n) rs
-            → fids_from size (suc at) n bytes ≡ rs)
+          → fids_from size (suc at) n bytes ≡ rs)
           → taken at q (λ n. fids_from size (suc at) n bytes) ≡ qs
       by None found qs t o c rest =
           rest 3 (omega arith) qs t (skipped at qs (omega arith) (ap (fid_at size) (sym e) ∙ found) t o) (λ x f h. c x f (omega arith))
@@ -195,12 +197,16 @@ module _ (size : ℕ) (content : List ℕ) where
         where
           g_begins : Begins size (byte ∷ bytes) g
           g_begins = found_begins size (byte ∷ bytes) g found
+
           p_some : 0 < length p.1
           p_some = omega (arith, is_long size p.1 ((t.0).1).is)
+
           same : ◌≡◌ {A = Placed} p (at, g)
           same = first_listed at g p qs p_some o (c at g (omega arith) (omega arith) (subst (λ xs. Begins size xs g) e g_begins))
+
           starts : p.0 ≡ at
           starts = ap (λ (z : Placed). z.0) same
+
           long : length p.1 ≡ length g
           long = ap (λ (z : Placed). length z.1) same
 

@@ -1,5 +1,5 @@
 -- What the scan says of the offsets that it lists.
-use Rattle.std.proofs.Common.{◌≡◌, ℕ, ◌+◌, ◌%◌, ◌<◌, ◌≤◌, List, [], ◌++◌, length, take, drop, map, get_or, arith, sym, ◌∙◌, ap, subst}
+use Rattle.std.proofs.Common.{◌≡◌, ℕ, ◌<◌, List, [], ◌++◌, length, drop, get_or, arith, sym, ◌∙◌, ap, subst}
 use Rattle.std.specs.Prelude.{All, AllPairs, Contains}
 use Rattle.std.proofs.lemmas.List.{get_or-map, length-map, take_at}
 use Rattle.std.proofs.lemmas.List.Elements.{All-contains, All-map, All-weaker}

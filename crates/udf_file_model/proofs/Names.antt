@@ -1,9 +1,9 @@
 -- Names that are the same, by what tells them apart.
-use Rattle.std.proofs.Common.{◌≡◌, ℕ, true, ◌⊎◌, inl, inr, List, refl, sym, ◌∙◌, ap}
+use Rattle.std.proofs.Common.{◌≡◌, ℕ, true, inl, inr, List, refl, sym, ◌∙◌, ap}
 use Rattle.std.specs.Prelude.{Result, Ok, Err}
 use Rattle.udf_text.specs.Compressed.{decoding}
 use Rattle.udf_text.specs.declared.fault.TextFault.{TextFault}
-use Rattle.udf_file_model.specs.Name.{DecodeAlike, IsSameName, Canonical, Characters, Undecoded, canonical_by, canonical, canonical_key, canonical_cmp}
+use Rattle.udf_file_model.specs.Name.{IsSameName, Canonical, Characters, Undecoded, canonical_by, canonical, canonical_key, canonical_cmp}
 use Rattle.std.specs.Ordering.{is_eq}
 use Rattle.std.specs.Cmp.Lexicographic.{bytes_decides, texts_ties}
 use Rattle.std.specs.declared.cmp.Ordering.{Ordering}
@@ -20,6 +20,7 @@ canonical_same a b e = choose (decoding a) (decoding b) refl refl e
   where
     alike : (x y : List ℕ) → decoding a ≡ Ok x → decoding b ≡ Ok y → x ≡ y → IsSameName a b
     alike x y p q s = inr (x, p, q ∙ ap Ok (sym s))
+
     choose : (r s : Result (List ℕ) TextFault) → decoding a ≡ r → decoding b ≡ s → canonical_by r a ≡ canonical_by s b → IsSameName a b
     choose (Ok x) (Ok y) p q h = let s : x ≡ y = cc in alike x y p q s
     choose (Ok x) (Err f) p q h = cc

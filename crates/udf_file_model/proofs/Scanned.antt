@@ -1,9 +1,9 @@
 -- The scan, step by step, and over packed FIDs.
-use Rattle.std.proofs.Common.{◌≡◌, ℕ, zero, suc, ◌+◌, ◌-◌, ◌<◌, ◌≤◌, Option, Some, None, List, [], ◌∷◌, ◌++◌, length, take, drop, arith, sym, ◌∙◌, ap, refl, length-append}
+use Rattle.std.proofs.Common.{◌≡◌, ℕ, zero, suc, ◌+◌, ◌-◌, ◌<◌, Option, Some, None, List, [], ◌∷◌, ◌++◌, length, drop, arith, sym, ◌∙◌, ap, refl}
 use Rattle.std.specs.List.{AllByRecursion}
-use Rattle.std.proofs.lemmas.List.{drop_at, append-nil}
-use Rattle.udf_file_model.specs.Fid.{IsFid, Begins, fid_at}
-use Rattle.udf_file_model.specs.Scan.{Placed, taken, fids_from, fids, fids_of}
+use Rattle.std.proofs.lemmas.List.{drop_at}
+use Rattle.udf_file_model.specs.Fid.{IsFid, fid_at}
+use Rattle.udf_file_model.specs.Scan.{taken, fids_from, fids, fids_of}
 use Rattle.udf_file_model.specs.Pack.{packed, placed_from}
 use Rattle.udf_file_model.proofs.Fids.{fid_found, found_begins, is_long}
 
@@ -81,6 +81,7 @@ first_is size bytes none some whole = by (fids_of (fids size bytes)) (all_fids s
   where
     clash : (fid : List ℕ) → None ≡ Some fid → ⊥
     clash fid e = cc
+
     by : (list : List (List ℕ)) → AllByRecursion (IsFid size) list → bytes ≡ packed list → ⊥
     by [] all e = let l = ap length e in omega arith
     by (fid ∷ list) all e = clash fid (sym none ∙ ap (fid_at size) e ∙ fid_found size fid (packed list) all.0)

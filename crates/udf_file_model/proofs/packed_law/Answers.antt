@@ -1,5 +1,5 @@
 -- By induction on the list.
-use Rattle.std.proofs.Common.{◌≡◌, sym, ◌∙◌, ap}
+use Rattle.std.proofs.Common.{sym, ◌∙◌, ap}
 use Rattle.std.proofs.lemmas.List.Elements.{All-from_recursion, recursion_from_All}
 use Rattle.udf_file_model.specs.Fid.{IsFid}
 use Rattle.udf_file_model.specs.Scan.{fids, fids_of}

@@ -1,6 +1,6 @@
 -- Behind a FID the rest decides, and where no FID begins only the end is whole.
-use Rattle.std.proofs.Common.{◌≡◌, ◌<◌, ◌≤◌, ℕ, List, [], ◌∷◌, arith, length, drop, sym, ◌∙◌, ap, refl}
-use Rattle.udf_dir.proofs.Wholes.{fid_room, some_passed, whole_back, whole_on, none_whole, ends}
+use Rattle.std.proofs.Common.{ℕ, List, arith, length, drop, sym, ◌∙◌, ap, refl}
+use Rattle.udf_dir.proofs.Wholes.{fid_room, some_passed, whole_back, whole_on, ends}
 use Rattle.udf_dir.proofs.content.is_whole.Goals as goal
 
 pub split_at-requires : goal.split_at-requires

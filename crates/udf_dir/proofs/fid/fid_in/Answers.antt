@@ -1,5 +1,5 @@
 -- Where a FID begins, it is in the bytes.
-use Rattle.std.proofs.Common.{◌≡◌, arith, sym, ◌∙◌, ap, length}
+use Rattle.std.proofs.Common.{arith, sym, ◌∙◌, ap, length}
 use Rattle.udf_file_model.specs.Fid.{fid_length}
 use Rattle.udf_dir.proofs.Beginning.{begins_within, begins_long, cut_length, fid_there, none_there}
 use Rattle.udf_dir.proofs.fid.fid_in.Goals as goal

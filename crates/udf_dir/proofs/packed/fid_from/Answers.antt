@@ -1,5 +1,5 @@
 -- A FID has at least 40 bytes.
-use Rattle.std.proofs.Common.{◌≡◌, arith, ap}
+use Rattle.std.proofs.Common.{arith, ap}
 use Rattle.udf_file_model.proofs.Fids.{least}
 use Rattle.udf_file_model.specs.Fid.{fid_length}
 use Rattle.udf_dir.proofs.packed.fid_from.Goals as goal

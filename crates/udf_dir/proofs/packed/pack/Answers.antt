@@ -1,5 +1,5 @@
 -- One FID more is packed, or it does not fit and none after it is taken.
-use Rattle.std.proofs.Common.{◌≡◌, arith, ◌∙◌, ap, length, length-append}
+use Rattle.std.proofs.Common.{arith, ◌∙◌, ap, length, length-append}
 use Rattle.udf_dir.proofs.Packs.{taken_room, stops, goes_on}
 use Rattle.udf_dir.proofs.packed.pack.Goals as goal
 

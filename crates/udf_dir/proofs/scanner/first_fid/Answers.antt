@@ -1,7 +1,7 @@
 -- Nothing is taken before the place that is looked at.
-use Rattle.std.proofs.Common.{◌≡◌, arith, sym, ◌∙◌, ap}
+use Rattle.std.proofs.Common.{arith, sym, ◌∙◌, ap}
 use Rattle.udf_file_model.specs.Fid.{fid_at}
-use Rattle.udf_dir.proofs.Steps.{none_before_0, four_more, none_at_all, first_there}
+use Rattle.udf_dir.proofs.Steps.{four_more, none_at_all, first_there}
 use Rattle.udf_dir.proofs.scanner.first_fid.Goals as goal
 
 pub returns-in-Some : goal.returns-in-Some

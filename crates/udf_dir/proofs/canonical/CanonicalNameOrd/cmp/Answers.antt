@@ -1,5 +1,5 @@
 -- By how the two are spelled.
-use Rattle.std.proofs.Common.{◌≡◌, ◌∙◌, sym, ap}
+use Rattle.std.proofs.Common.{◌∙◌, sym, ap}
 use Rattle.udf_dir.specs.Spelled.{spelled}
 use Rattle.udf_dir.proofs.Ordered.{characters_cmp, bytes_cmp, characters_first, bytes_last}
 use Rattle.udf_dir.proofs.canonical.CanonicalNameOrd.cmp.Goals as goal

@@ -1,5 +1,5 @@
 -- Equal is what the order finds equal.
-use Rattle.std.proofs.Common.{◌≡◌, ◌∙◌, sym, ap}
+use Rattle.std.proofs.Common.{◌∙◌, sym, ap}
 use Rattle.std.specs.Ordering.{is_eq}
 use Rattle.std.specs.Cmp.Lexicographic.{texts_ties}
 use Rattle.udf_file_model.specs.Name.{canonical_key}

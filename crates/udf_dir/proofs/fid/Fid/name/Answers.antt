@@ -1,5 +1,5 @@
 -- A FID has room for its name.
-use Rattle.std.proofs.Common.{◌≡◌, ℕ, List, arith, length, ap, get_or}
+use Rattle.std.proofs.Common.{ℕ, List, arith, length, ap, get_or}
 use Rattle.udf_model.specs.Bytes.{number_at}
 use Rattle.udf_dir.proofs.Lengths.{room, name_room}
 use Rattle.udf_dir.proofs.fid.Fid.name.Goals as goal

@@ -1,5 +1,5 @@
 -- With no FID left, none is left behind the end either.
-use Rattle.std.proofs.Common.{◌≡◌, ◌∙◌, sym, refl}
+use Rattle.std.proofs.Common.{◌∙◌, sym, refl}
 use Rattle.udf_file_model.specs.Scan.{fids_from}
 use Rattle.udf_dir.proofs.scanner.ScanIterator.next.Goals as goal
 

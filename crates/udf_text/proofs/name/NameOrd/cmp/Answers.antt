@@ -1,5 +1,5 @@
 -- The characters are compared in order.
-use Rattle.std.proofs.Common.{◌≡◌, ◌∙◌, sym, refl, ap}
+use Rattle.std.proofs.Common.{◌≡◌, ◌∙◌, refl, ap}
 use Rattle.std.specs.Ordering.{nat_cmp}
 use Rattle.std.specs.Str.{chars}
 use Rattle.std.specs.Cmp.Lexicographic.{slice_cmp}
