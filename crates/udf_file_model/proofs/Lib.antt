@@ -4,3 +4,4 @@ pub mod Greedy
 pub mod Listed
 pub mod Packings
 pub mod Names
+pub mod Anew

@@ -2,4 +2,5 @@
 pub mod Fid
 pub mod Scan
 pub mod Pack
+pub mod Anew
 pub mod Name

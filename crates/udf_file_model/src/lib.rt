@@ -3,9 +3,11 @@
 //! an empty body whose contract says what the definitions mean. It stands on the definitions of tags, fields and texts.
 #![tactic(auto)]
 
-ghost use Rattle.std.specs.Prelude.{◌≡◌, ℕ, ◌≤◌, ◌<◌, ◌%◌, ◌++◌, ◌∷◌, ◌↔◌, List, Some, length, take, drop, true, false, All, AllPairs, Contains};
+ghost use Rattle.std.specs.Prelude.{◌≡◌, ℕ, ◌≤◌, ◌<◌, ◌%◌, ◌++◌, ◌∷◌, ◌↔◌, ◌⊎◌, List, Some, length, take, drop, true, false, All, AllPairs, Contains, slice_index};
 ghost use Rattle.std.specs.declared.cmp.Ordering.TheVariants.{Equal};
-ghost use Rattle.udf_file_model.specs.Fid.{Begins, IsFid, fid_at, fid_bytes, is_live, is_parent};
+ghost use Rattle.udf_file_model.specs.Fid.{Begins, IsFid, fid_at, fid_bytes, is_live, is_parent, target};
+ghost use Rattle.udf_file_model.specs.Anew.{CanName, named_anew};
+ghost use Rattle.udf_field.specs.declared.address.Addr.{Addr};
 ghost use Rattle.udf_file_model.specs.Scan.{IsScan, Placed, fids, fids_of, offsets};
 ghost use Rattle.udf_file_model.specs.Pack.{IsPacking, IsWholeContent, Packing, fids_at, packed, placed_from};
 ghost use Rattle.udf_file_model.specs.Name.{Canonical, IsSameName, canonical, canonical_cmp};
@@ -50,6 +52,17 @@ pub fn packing_law()
     ensures scanned { (size : ℕ) (parent : List ℕ) (list : List (List ℕ)) (limit : ℕ) (packing : Packing)
         → IsFid size parent → All (IsFid size) list → IsPacking parent list limit packing
         → fids size packing.bytes ≡ placed_from 0 (parent ∷ take packing.taken list) }
+{}
+
+/// A FID that is made to name another address is a whole FID that names it, and nothing behind its tag but the address is
+/// new: it is a parent FID, or live, where it was.
+pub fn anew_law()
+    ensures whole { (size : ℕ) (fid : List ℕ) (at : Addr) → CanName size fid at → IsFid size (named_anew at fid) }
+    ensures names { (size : ℕ) (fid : List ℕ) (at : Addr) → CanName size fid at → (target (named_anew at fid)).at ≡ at }
+    ensures rest { (size : ℕ) (fid : List ℕ) (at : Addr) → CanName size fid at → (k : ℕ) → 16 ≤ k → (k < 24) ⊎ (30 ≤ k)
+        → slice_index (named_anew at fid) k ≡ slice_index fid k }
+    ensures parent { (size : ℕ) (fid : List ℕ) (at : Addr) → CanName size fid at → is_parent (named_anew at fid) ≡ is_parent fid }
+    ensures live { (size : ℕ) (fid : List ℕ) (at : Addr) → CanName size fid at → is_live (named_anew at fid) ≡ is_live fid }
 {}
 
 /// To be the same name is an equivalence, and what is canonical of a name tells it from all others.
