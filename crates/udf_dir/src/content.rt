@@ -8,7 +8,8 @@ use crate::fid::fid_in;
 
 /// The whole FIDs of a directory's content at blocks of `size` bytes, each with its offset in bytes (ECMA-167 4/14.4): at
 /// offsets that are multiples of four, a FID of at most a block whose tag is whole and has identifier 257 is yielded and
-/// passed. Where there is none, the scan goes on four bytes later. Takes no memory.
+/// passed. Where there is none, the scan goes on four bytes later. Takes no memory, and
+/// at each offset at most the time of the CRC of one block.
 pub fn scan(content: &[u8], size: u32) -> Scan<'_>
     ensures { result ≡ fids size content.now }
 {

@@ -15,13 +15,10 @@ pub fn same_name(alloc: Global, a: &[u8], b: &[u8]) -> Result<bool, NoMemory>
     if a == b {
         return Ok(true);
     }
-    let Some(left) = decoded(alloc, a)? else {
-        return Ok(false);
-    };
-    let Some(right) = decoded(alloc, b)? else {
-        return Ok(false);
-    };
-    Ok(left == right)
+    match (decoded(alloc, a)?, decoded(alloc, b)?) {
+        (Some(left), Some(right)) => Ok(left == right),
+        _ => Ok(false),
+    }
 }
 
 // The name that the bytes encode, if they are in order.

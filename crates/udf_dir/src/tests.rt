@@ -70,13 +70,33 @@ fn names_in_both_widths(rt: HostRuntime) -> Result<(), Fail> {
     Ok(())
 }
 
+fn are_equal(alloc: Global, a: &[u8], b: &[u8]) -> Result<bool, NoMemory> {
+    Ok(canonical_name(alloc, a)? == canonical_name(alloc, b)?)
+}
+
+fn add_name(
+    alloc: Global,
+    names: &mut BTreeSet<CanonicalName>,
+    bytes: &[u8],
+) -> Result<(), NoMemory> {
+    let name = canonical_name(alloc, bytes)?;
+    names.insert(name)?;
+    Ok(())
+}
+
+// How many names a set has of two.
+fn told_apart(alloc: Global, a: &[u8], b: &[u8]) -> Result<usize, NoMemory> {
+    let mut names = BTreeSet::new(alloc);
+    add_name(alloc, &mut names, a)?;
+    add_name(alloc, &mut names, b)?;
+    Ok(names.len())
+}
+
 #[test]
 fn names_in_a_set(rt: HostRuntime) -> Result<(), Fail> {
-    let alloc = rt.alloc();
-    let mut names: BTreeSet<CanonicalName> = BTreeSet::new(alloc);
-    assert!(rt; names.insert(canonical_name(alloc, &[8, 0x61])?)?);
-    assert!(rt; names.insert(canonical_name(alloc, &[9, 0x61])?)?);
-    assert!(rt; !names.insert(canonical_name(alloc, &[16, 0x00, 0x61])?)?);
+    assert_eq!(rt; told_apart(rt.alloc(), &[8, 0x61], &[16, 0x00, 0x61])?, 1);
+    assert_eq!(rt; told_apart(rt.alloc(), &[9, 0x61], &[9, 0x62])?, 2);
+    assert!(rt; are_equal(rt.alloc(), &[9, 0x61], &[9, 0x61])?);
     Ok(())
 }
 

@@ -76,6 +76,7 @@ module _ (size : ℕ) (fid : List ℕ) (bytes : IsBytes fid) (is : IsFid size fi
       late : (from + m ≤ 24) ⊎ (30 ≤ from) → (from + m ≤ 28) ⊎ (28 + 2 ≤ from)
       late (inl h) = inl (omega arith)
       late (inr h) = inr h
+
       early : (from + m ≤ 24) ⊎ (30 ≤ from) → (from + m ≤ 24) ⊎ (24 + 4 ≤ from)
       early (inl h) = inl h
       early (inr h) = inr (omega arith)
