@@ -27,9 +27,12 @@ fn time_scan(rt: &(impl Clock + Print + AllocGlobal), byte: u8, mebibytes: usize
 {
     let content = vec![in rt.alloc(); byte; mebibytes * 1_048_576]?;
     let start = Instant::now(rt)?;
-    let found = scan(&content, 4096).count();
+    let mut found = 0u64;
+    for (_, fid) in scan(&content, 4096) {
+        found = found.wrapping_add(fid.bytes().len() as u64);
+    }
     let took = start.elapsed(rt)?.as_micros();
-    println!(rt; "{mebibytes} MiB of {byte}: {found} FIDs, {took} microseconds")
+    println!(rt; "{mebibytes} MiB of {byte}: {found} bytes of FIDs, {took} microseconds")
 }
 
 fn main(rt: HostRuntime) -> io::Result<()> {

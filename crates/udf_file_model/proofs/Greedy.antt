@@ -42,7 +42,7 @@ pairs o (p ∷ ps) r i zero d h k = absurd (omega arith)
 pairs o (p ∷ ps) r zero (suc j) d h k = above (p.0 + length p.1) ps j d r.1 (omega arith)
 pairs o (p ∷ ps) r (suc i) (suc j) d h k = pairs (p.0 + length p.1) ps r.1 i j d (omega arith) (omega arith)
 
-ordered_from : (o : ℕ) (ps : List Placed) → ((k : ℕ) (d : Placed) → k < length ps → o ≤ (get_or ps k d).0)
+pub ordered_from : (o : ℕ) (ps : List Placed) → ((k : ℕ) (d : Placed) → k < length ps → o ≤ (get_or ps k d).0)
     → AllPairs (λ p q. p.0 + length p.1 ≤ q.0) ps → Ordered o ps
 ordered_from o [] h r = tt
 ordered_from o (p ∷ ps) h r =

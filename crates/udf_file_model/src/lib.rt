@@ -3,7 +3,7 @@
 //! an empty body whose contract says what the definitions mean. It stands on the definitions of tags, fields and texts.
 #![tactic(auto)]
 
-ghost use Rattle.std.specs.Prelude.{◌≡◌, ℕ, ◌≤◌, ◌<◌, ◌%◌, ◌++◌, ◌∷◌, ◌↔◌, ◌⊎◌, List, Some, length, take, drop, true, false, All, AllPairs, Contains, slice_index};
+ghost use Rattle.std.specs.Prelude.{◌≡◌, ℕ, ◌*◌, ◌≤◌, ◌<◌, ◌%◌, ◌++◌, ◌∷◌, ◌↔◌, ◌⊎◌, List, Some, length, take, drop, true, false, All, AllPairs, Contains, slice_index};
 ghost use Rattle.std.specs.declared.cmp.Ordering.TheVariants.{Equal};
 ghost use Rattle.udf_file_model.specs.Fid.{Begins, IsFid, fid_at, fid_bytes, is_live, is_parent, target};
 ghost use Rattle.udf_file_model.specs.Anew.{CanName, named_anew};
@@ -24,11 +24,13 @@ pub fn fid_law()
 {}
 
 /// The scan of a content is the one list that has each whole FID at a multiple of four but those that begin within a
-/// listed one. Its offsets ascend, and the FID at a listed offset is the one whose bytes are there.
+/// listed one. Its offsets ascend, each FID has at least 40 bytes of the content, and the FID at a listed offset is the one whose
+/// bytes are there.
 pub fn scan_law()
     ensures listed { (size : ℕ) (content : List ℕ) → IsScan size content (fids size content) }
     ensures one { (size : ℕ) (content : List ℕ) (list : List Placed) → IsScan size content list → list ≡ fids size content }
     ensures ascending { (size : ℕ) (content : List ℕ) → AllPairs (λ a b. a < b) (offsets (fids size content)) }
+    ensures few { (size : ℕ) (content : List ℕ) → 40 * length (fids size content) ≤ length content }
     ensures bytes { (size at : ℕ) (content fid : List ℕ) → Contains (fids size content) (at, fid) → fid_bytes (drop at content) ≡ fid }
     ensures chosen { (size : ℕ) (content at : List ℕ) → All (Contains (offsets (fids size content))) at
         → All (IsFid size) (fids_at content at) }
