@@ -1,5 +1,5 @@
 -- A FID that is made to name another address.
-use Rattle.std.proofs.Common.{◌≡◌, ℕ, Bool, true, false, cond, ◌+◌, ◌-◌, ◌*◌, ◌/◌, ◌%◌, ◌^◌, ◌<◌, ◌≤◌, ◌&&◌, ◌⊎◌, inl, inr, Option, Some, None, List, length, take, drop, get_or, arith, sym, ◌∙◌, ap, refl, subst}
+use Rattle.std.proofs.Common.{◌≡◌, ℕ, Bool, true, false, cond, ◌+◌, ◌-◌, ◌*◌, ◌/◌, ◌%◌, ◌^◌, ◌<◌, ◌≤◌, ◌&&◌, ◌⊎◌, inl, inr, Some, None, List, length, drop, get_or, arith, sym, ◌∙◌, ap, refl}
 use Rattle.std.specs.Prelude.{nat_le, nat_lt, not, ◌==◌}
 use Rattle.std.proofs.lemmas.Bool.Decides.{nat_tests}
 use Rattle.std.proofs.lemmas.Bool.{and_parts}
@@ -9,9 +9,9 @@ use Rattle.udf_model.specs.Bytes.{IsBytes, number_at, with_number}
 use Rattle.udf_model.specs.Tag.{whole_id, is_whole, identifier, crc_length, location, retagged}
 use Rattle.udf_model.proofs.Retagged.{retagged_whole, retagged_identifier, retagged_length, retagged_body}
 use Rattle.udf_model.proofs.Written.{number_back, number_length, number_stays, number_is_bytes, number_fits, one_byte}
-use Rattle.udf_field.specs.FieldView.{address_at, length_bits, long_at}
+use Rattle.udf_field.specs.FieldView.{length_bits}
 use Rattle.udf_field.specs.declared.address.Addr.{Addr}
-use Rattle.udf_file_model.specs.Fid.{IsFid, fid_length, use_length, name_length, characteristics, is_deleted, has_parent_bit, is_parent, is_live, target, name}
+use Rattle.udf_file_model.specs.Fid.{IsFid, fid_length, name_length, characteristics, is_deleted, is_parent, is_live, target}
 use Rattle.udf_file_model.specs.Anew.{readdressed, named_anew}
 use Rattle.udf_file_model.proofs.Fids.{is_long}
 

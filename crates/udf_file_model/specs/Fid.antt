@@ -16,7 +16,7 @@ name_length fid = slice_index fid 19
 abbrev pub use_length : List ℕ → ℕ
 use_length fid = number_at 2 fid 36
 
--- the bytes of the whole descriptor
+-- 4/14.4.9: the bytes of the whole descriptor, with its padding
 unfoldable pub fid_length : List ℕ → ℕ
 fid_length fid = (38 + use_length fid + name_length fid + 3) / 4 * 4
 
