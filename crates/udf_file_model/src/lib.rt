@@ -1,0 +1,81 @@
+//! The definitions of files: file identifier descriptors (FIDs), the scan of a directory's content, packed contents and when
+//! names are the same, in the terms of ECMA-167 part 4 and OSTA UDF 2.1. The code of this crate is laws alone: functions with
+//! an empty body whose contract says what the definitions mean. It stands on the definitions of tags, fields and texts.
+#![tactic(auto)]
+
+ghost use Rattle.std.specs.Prelude.{◌≡◌, ℕ, ◌*◌, ◌≤◌, ◌<◌, ◌%◌, ◌++◌, ◌∷◌, ◌↔◌, ◌⊎◌, List, Some, length, take, drop, true, false, All, AllPairs, Contains, slice_index};
+ghost use Rattle.std.specs.declared.cmp.Ordering.TheVariants.{Equal};
+ghost use Rattle.udf_file_model.specs.Fid.{Begins, IsFid, fid_at, fid_bytes, is_live, is_parent, target};
+ghost use Rattle.udf_file_model.specs.Anew.{CanName, named_anew};
+ghost use Rattle.udf_field.specs.declared.address.Addr.{Addr};
+ghost use Rattle.udf_file_model.specs.Scan.{IsScan, Placed, fids, fids_of, offsets};
+ghost use Rattle.udf_file_model.specs.Pack.{IsPacking, IsWholeContent, Packing, fids_at, packed, placed_from};
+ghost use Rattle.udf_file_model.specs.Name.{Canonical, IsSameName, canonical, canonical_cmp};
+
+/// The FID that begins some bytes is found there, and rests on its own bytes alone. Its length is a multiple of four and
+/// at least 40, and it is never both live and a parent.
+pub fn fid_law()
+    ensures found { (size : ℕ) (bytes fid : List ℕ) → (fid_at size bytes ≡ Some fid) ↔ Begins size bytes fid }
+    ensures own_bytes { (size : ℕ) (fid rest : List ℕ) → IsFid size fid → fid_at size (fid ++ rest) ≡ Some fid }
+    ensures same_bytes { (size at : ℕ) (content other fid : List ℕ) → fid_at size (drop at content) ≡ Some fid
+        → take (length fid) (drop at other) ≡ fid → fid_at size (drop at other) ≡ Some fid }
+    ensures long { (size : ℕ) (fid : List ℕ) → IsFid size fid → (40 ≤ length fid) × (length fid % 4 ≡ 0) }
+    ensures apart { (fid : List ℕ) → is_parent fid ≡ true → is_live fid ≡ false }
+{}
+
+/// The scan of a content is the one list that has each whole FID at a multiple of four but those that begin within a
+/// listed one. Its offsets ascend, each FID has at least 40 bytes of the content, and the FID at a listed offset is the one whose
+/// bytes are there.
+pub fn scan_law()
+    ensures listed { (size : ℕ) (content : List ℕ) → IsScan size content (fids size content) }
+    ensures one { (size : ℕ) (content : List ℕ) (list : List Placed) → IsScan size content list → list ≡ fids size content }
+    ensures ascending { (size : ℕ) (content : List ℕ) → AllPairs (λ a b. a < b) (offsets (fids size content)) }
+    ensures few { (size : ℕ) (content : List ℕ) → 40 * length (fids size content) ≤ length content }
+    ensures bytes { (size at : ℕ) (content fid : List ℕ) → Contains (fids size content) (at, fid) → fid_bytes (drop at content) ≡ fid }
+    ensures chosen { (size : ℕ) (content at : List ℕ) → All (Contains (offsets (fids size content))) at
+        → All (IsFid size) (fids_at content at) }
+{}
+
+/// Packed FIDs are a whole content, and its scan gives them back, each at the offset at which packing puts it. Whole FIDs
+/// alone make a whole content.
+pub fn packed_law()
+    ensures scanned { (size : ℕ) (list : List (List ℕ)) → All (IsFid size) list → fids size (packed list) ≡ placed_from 0 list }
+    ensures whole { (size : ℕ) (list : List (List ℕ)) → All (IsFid size) list → IsWholeContent size (packed list) }
+    ensures only { (size : ℕ) (content : List ℕ) → IsWholeContent size content
+        → (list : List (List ℕ)) × All (IsFid size) list × (content ≡ packed list) }
+    ensures same { (list : List (List ℕ)) → fids_of (placed_from 0 list) ≡ list }
+{}
+
+/// There is one packing of a parent FID and a list of FIDs within a limit, and its scan gives the parent FID and then as
+/// many of the others as were taken.
+pub fn packing_law()
+    ensures one { (parent : List ℕ) (list : List (List ℕ)) (limit : ℕ) (a b : Packing)
+        → IsPacking parent list limit a → IsPacking parent list limit b → a ≡ b }
+    ensures scanned { (size : ℕ) (parent : List ℕ) (list : List (List ℕ)) (limit : ℕ) (packing : Packing)
+        → IsFid size parent → All (IsFid size) list → IsPacking parent list limit packing
+        → fids size packing.bytes ≡ placed_from 0 (parent ∷ take packing.taken list) }
+{}
+
+/// A FID that is made to name another address is a whole FID that names it, and nothing behind its tag but the address is
+/// new: it is a parent FID, or live, where it was.
+pub fn anew_law()
+    ensures whole { (size : ℕ) (fid : List ℕ) (at : Addr) → CanName size fid at → IsFid size (named_anew at fid) }
+    ensures names { (size : ℕ) (fid : List ℕ) (at : Addr) → CanName size fid at → (target (named_anew at fid)).at ≡ at }
+    ensures rest { (size : ℕ) (fid : List ℕ) (at : Addr) → CanName size fid at → (k : ℕ) → 16 ≤ k → (k < 24) ⊎ (30 ≤ k)
+        → slice_index (named_anew at fid) k ≡ slice_index fid k }
+    ensures parent { (size : ℕ) (fid : List ℕ) (at : Addr) → CanName size fid at → is_parent (named_anew at fid) ≡ is_parent fid }
+    ensures live { (size : ℕ) (fid : List ℕ) (at : Addr) → CanName size fid at → is_live (named_anew at fid) ≡ is_live fid }
+{}
+
+/// To be the same name is an equivalence, and what is canonical of a name tells it from all others.
+pub fn name_law()
+    ensures canonical { (a b : List ℕ) → IsSameName a b ↔ (canonical a ≡ canonical b) }
+    ensures itself { (a : List ℕ) → IsSameName a a }
+    ensures either_way { (a b : List ℕ) → IsSameName a b → IsSameName b a }
+    ensures along { (a b c : List ℕ) → IsSameName a b → IsSameName b c → IsSameName a c }
+{}
+
+/// The order of canonical names finds equal only what is equal.
+pub fn order_law()
+    ensures { (a b : Canonical) → (canonical_cmp a b ≡ Equal) ↔ (a ≡ b) }
+{}
