@@ -8,8 +8,6 @@ mod difference;
 mod plan;
 mod sequence;
 mod terminator;
-#[cfg(test)]
-mod tests;
 mod volume;
 
 pub use plan::Plan;
