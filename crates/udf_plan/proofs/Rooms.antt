@@ -33,8 +33,3 @@ module _ (volume : Volume) (b : IsBounded volume.size volume.blocks volume) wher
 
   pub last_inside : (w : Which) (start : ℕ) → start ≡ (span_by w volume).start → start + volume.count < volume.blocks
   last_inside w start s = omega (arith, end_inside w)
-
--- the blocks of a volume lie in the image
-pub fits_image : (volume : Volume) (length : ℕ) → volume.size ≡ 512 → volume.blocks ≡ length / 512 → volume.blocks * volume.size ≤ length
-fits_image volume length size blocks =
-    let e : length / 512 * 512 + length % 512 ≡ length = div-add-mod' length 512 in rw (size, blocks) (omega arith)
