@@ -11,8 +11,8 @@ use udf_outside::{MemBench, Role};
 /// The status of a fault.
 const FAULT: u8 = 8;
 
-/// After how many bytes a write is cut: none, one, about half and all of one of the log's or of a block of 512 bytes. A write that is
-/// shorter is whole.
+/// After how many bytes a write is cut: none, one, about half and all of one of the log's, or of a block of 512 bytes. A write
+/// that is shorter is whole.
 const CUTS: [u64; 9] = [0, 1, 2, 4, 9, 26, 52, 256, 512];
 
 // Whether the next run repairs what is left, and the one after it finds nothing to do.
@@ -94,8 +94,8 @@ fn bad_cut(
     Ok(None)
 }
 
-/// The run is stopped at each call in turn, a write after each of some numbers of bytes. Before the first write a stop leaves the files as they
-/// were, and is tried at the first call alone.
+/// The run is stopped at each call in turn, a write after each of some numbers of bytes. Before the first write a stop leaves the
+/// files as they were, and is tried at the first call alone.
 pub(crate) fn each_stop_told(
     alloc: Global,
     words: &[String],

@@ -1,6 +1,6 @@
-//! The side file at the start, as words one after another: `log` (the log of the case), `log:96:5:256` (another log), `open` (its gate is open), `text:hello` and
-//! `zeros:3` (such bytes behind), `put:0:UDF` (letters at an offset), `byte:9:0` (a byte at an offset), `flip` (each bit is turned),
-//! and `cut:70` (only so many bytes are left).
+//! The side file at the start, as words one after another: `log` (the log of the case), `log:96:5:256` (another log), `open` (its
+//! gate is open), `text:hello` and `zeros:3` (such bytes behind), `put:0:UDF` (letters at an offset), `byte:9:0` (a byte at an
+//! offset), `flip` (each bit is turned), and `cut:70` (only so many bytes are left).
 ghost use Rattle.std.specs.Prelude.{◌<◌};
 
 use crate::log::{log_of, open};

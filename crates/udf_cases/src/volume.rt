@@ -1,8 +1,7 @@
-//! Volumes as words: `fresh` (the fresh volume of 1,024 blocks of 512 bytes), `bare` (the same with a partition of zeros),
-//! `files` (the fresh one with
-//! entries), `disc:BLOCKS` (a fresh sparable volume of at least 850 blocks of 512 bytes), `three:SIZE:BLOCKS` (a volume of any block size, at least 540
-//! blocks, three anchors and a partition of zeros), `short:BLOCKS` (such a volume of blocks of 512 bytes that may be shorter, with
-//! two anchors).
+//! Volumes as words: `fresh` (the fresh volume of 1,024 blocks of 512 bytes), `bare` (the same with a partition of zeros), `files`
+//! (the fresh one with entries), `disc:BLOCKS` (a fresh sparable volume of at least 850 blocks of 512 bytes), `three:SIZE:BLOCKS` (a
+//! volume of any block size, at least 540 blocks, three anchors and a partition of zeros), `short:BLOCKS` (a volume of at least 290
+//! blocks of 512 bytes, with two anchors and a partition of zeros). `zeros:BYTES` is no volume, but an image of so many zeros.
 ghost use Rattle.std.specs.Prelude.{◌<◌, ◌≤◌, ◌^◌};
 
 use crate::words::{part, small};

@@ -1,5 +1,6 @@
 //! Descriptors of 512 bytes as they are put together, and the blocks of an image.
 ghost use Rattle.std.specs.Prelude.{◌+◌, ◌≤◌, ◌<◌, ◌≡◌, length};
+ghost use Rattle.udf_model.specs.Bytes.{written_at};
 
 use udf_field::retag;
 
@@ -32,6 +33,7 @@ pub(crate) const NAME: &[u8; 8] = b"LinuxUDF";
 /// Puts bytes at an offset.
 pub(crate) fn put(block: &mut [u8], at: usize, bytes: &[u8])
     requires { at + length bytes.now ≤ length block.old }
+    ensures { block.new ≡ written_at at bytes.now block.old }
 {
     block[at..at + bytes.len()].copy_from_slice(bytes);
 }

@@ -1,5 +1,6 @@
 //! What stands in the partition: the space bitmap, the file set, and file entries (ECMA-167 4/14).
-ghost use Rattle.std.specs.Prelude.{◌+◌, ◌*◌, ◌≤◌, ◌<◌, ◌≡◌, ◌^◌, All, length as length_of};
+ghost use Rattle.std.specs.Prelude.{◌+◌, ◌*◌, ◌≤◌, ◌<◌, ◌≡◌, ◌^◌, ℕ, List, All, length as length_of};
+ghost use Rattle.udf_model.specs.Bytes.{written_at};
 
 use crate::block::{
     CHARSPEC, DOMAIN, NAME, REVISION, STAMP, WRITER, put, put_dstring, put_number, put_tag, tagged,
@@ -171,6 +172,7 @@ pub fn put_entry(
     requires list { 216 + 8 * length_of list.now ≤ 512 }
     requires lawful { All (λ extent. (extent.kind ≤ 3) × (extent.length < 2 ^ 30)) list.now }
     requires body { 216 + length_of body.now ≤ 512 }
+    ensures { (block : List ℕ) × (length_of block ≡ 512) × (image.new ≡ written_at ((257 + at) * 512) block image.old) }
 {
     let kind = if directory {
         Kind::Directory

@@ -1,4 +1,4 @@
-use Rattle.std.proofs.Common.{rules, ◌≡◌, ◌≤◌, ◌<◌, ◌^◌, ℕ, [], ◌∷◌}
+use Rattle.std.proofs.Common.{◌≤◌, ◌<◌, [], ◌∷◌}
 use Rattle.std.proofs.lemmas.List.Elements.{All-cons, All-nil}
 use Rattle.udf_field.specs.declared.address.Short.{Short}
 use Rattle.udf_cases.proofs.volume.volume_with_files.Goals as goal
