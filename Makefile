@@ -4,7 +4,7 @@ PROGRAM = crates/udffsck/out/udffsck
 SAMPLE = crates/udffsck/data/a.img
 COPY = out/a.img
 
-.PHONY: all check-sample repair-sample test check-files install clean
+.PHONY: all check-sample repair-sample test check-cases check-files install clean
 
 all: $(PROGRAM)
 
@@ -30,6 +30,10 @@ repair-sample: $(PROGRAM)
 # The gate: proves every crate, tries the must-fail edits, runs the tests and the programs.
 test:
 	rt ci
+
+# Runs the cases over volumes in memory and compares what comes of them.
+check-cases:
+	cd crates/udf_cases && rt run <stdin >/dev/null && out/udf_cases <stdin | cmp - stdout
 
 # Runs the built program on damaged copies of the sample volume and compares what it prints and leaves.
 check-files: $(PROGRAM)

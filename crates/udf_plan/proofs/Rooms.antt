@@ -1,6 +1,5 @@
 -- The extents of a volume have room for the kept descriptors and the block that ends them.
-use Rattle.std.proofs.Common.{◌≡◌, ℕ, ◌+◌, ◌*◌, ◌/◌, ◌%◌, ◌<◌, ◌≤◌, arith}
-use Rattle.std.proofs.lemmas.Nat.{div-add-mod'}
+use Rattle.std.proofs.Common.{◌≡◌, ℕ, ◌+◌, ◌*◌, ◌<◌, ◌≤◌, arith}
 use Rattle.std.proofs.Math.Nat.{mul-le-mul_right}
 use Rattle.udf_volume_model.specs.Anchor.{blocks_for}
 use Rattle.udf_volume.proofs.Extents.{ends_in}
@@ -33,8 +32,3 @@ module _ (volume : Volume) (b : IsBounded volume.size volume.blocks volume) wher
 
   pub last_inside : (w : Which) (start : ℕ) → start ≡ (span_by w volume).start → start + volume.count < volume.blocks
   last_inside w start s = omega (arith, end_inside w)
-
--- the blocks of a volume lie in the image
-pub fits_image : (volume : Volume) (length : ℕ) → volume.size ≡ 512 → volume.blocks ≡ length / 512 → volume.blocks * volume.size ≤ length
-fits_image volume length size blocks =
-    let e : length / 512 * 512 + length % 512 ≡ length = div-add-mod' length 512 in rw (size, blocks) (omega arith)

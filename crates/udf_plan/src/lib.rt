@@ -7,8 +7,6 @@ mod anchors;
 mod difference;
 mod sequence;
 mod terminator;
-#[cfg(test)]
-mod tests;
 mod volume;
 
 pub use udf_blocks::Plan;

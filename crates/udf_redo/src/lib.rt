@@ -26,8 +26,3 @@ pub use replaying::replay;
 pub use side::{SideState, side_state};
 pub use stop::{Clash, RedoStop};
 pub use written::write_log;
-
-#[cfg(test)]
-mod log_tests;
-#[cfg(test)]
-mod tests;

@@ -19,22 +19,3 @@ pub use laws::{chain_law, clean_law, rerun_law};
 pub use outcome::{Cause, Outcome, status};
 pub use udf_rules::{Finding, Findings, Place, report_line};
 pub use udffsck::run_udffsck;
-
-#[cfg(test)]
-mod fault_tests;
-#[cfg(test)]
-mod repair_tests;
-#[cfg(test)]
-mod runs;
-#[cfg(test)]
-mod sample;
-#[cfg(test)]
-mod size_tests;
-#[cfg(test)]
-mod small;
-#[cfg(test)]
-mod stop_tests;
-#[cfg(test)]
-mod stop_twice_tests;
-#[cfg(test)]
-mod tests;

@@ -1,0 +1,60 @@
+//! Volumes as words: `fresh` (the fresh volume of 1,024 blocks of 512 bytes), `bare` (the same with a partition of zeros), `files`
+//! (the fresh one with entries), `disc:BLOCKS` (a fresh sparable volume of at least 850 blocks of 512 bytes), `three:SIZE:BLOCKS` (a
+//! volume of any block size, at least 540 blocks, three anchors and a partition of zeros), `short:BLOCKS` (a volume of at least 290
+//! blocks of 512 bytes, with two anchors and a partition of zeros). `zeros:BYTES` is no volume, but an image of so many zeros.
+ghost use Rattle.std.specs.Prelude.{◌<◌, ◌≤◌, ◌^◌};
+
+use crate::words::{part, small};
+use std::alloc::Global;
+use udf_field::Short;
+use udf_sample::{Form, NoMemory, bare_volume, put_entry, volume_a, volume_of};
+
+/// The bytes of a volume's block.
+pub(crate) fn size_of(word: &str) -> u32
+    ensures { 0 < result }
+{
+    match part(word, ':', 0) {
+        "three" => small(word, 1).clamp(512, 4096),
+        _ => 512,
+    }
+}
+
+// An extent of a file.
+fn extent(kind: u8, length: u32, block: u32) -> Short
+    requires kind { kind ≤ 3 }
+    requires length { length < 2 ^ 30 }
+    ensures kind { result.kind ≤ 3 }
+    ensures length { result.length < 2 ^ 30 }
+{
+    Short {
+        kind,
+        length,
+        block,
+    }
+}
+
+// The fresh volume with two files, one of recorded, allocated and missing blocks, and with a directory of five bytes.
+fn volume_with_files(alloc: Global) -> Result<Vec<u8>, NoMemory> {
+    let mut image = volume_a(alloc)?;
+    put_entry(&mut image, 3, false, 16, 1024, &[extent(0, 1024, 5)], b"");
+    let list = [extent(0, 512, 7), extent(1, 512, 6), extent(2, 512, 0)];
+    put_entry(&mut image, 4, false, 17, 1536, &list, b"");
+    put_entry(&mut image, 8, true, u64::MAX, 5, &[], b"hello");
+    Ok(image)
+}
+
+/// The volume of this name. Another name is that of an empty image.
+pub(crate) fn volume_named(alloc: Global, word: &str) -> Result<Vec<u8>, NoMemory> {
+    match part(word, ':', 0) {
+        "fresh" => volume_a(alloc),
+        "bare" => bare_volume(alloc, &Form::hard_disk(512, 1024)),
+        "files" => volume_with_files(alloc),
+        "disc" => volume_of(alloc, &Form::rewritable_disc(512, small(word, 1).max(850))),
+        "three" => bare_volume(
+            alloc,
+            &Form::three_anchors(size_of(word), small(word, 2).max(540)),
+        ),
+        "short" => bare_volume(alloc, &Form::two_anchors(512, small(word, 1).max(290))),
+        _ => Ok(Vec::new(alloc)),
+    }
+}
