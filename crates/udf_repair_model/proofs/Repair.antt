@@ -1,8 +1,6 @@
 -- What a repair makes of an image.
 use Rattle.std.proofs.Common.{◌≡◌, ◌⊎◌, inl, inr, ℕ, ◌≤◌, refl, sym, ◌∙◌, ap, List, [], length, true, false, not, cond, is_ok}
 use Rattle.std.proofs.lemmas.Bool.{cases_Bool, and_parts, and_from}
-use Rattle.udf_model.specs.Image.{block_of}
-use Rattle.udf_volume_model.specs.Kept.{Volume}
 use Rattle.udf_volume_model.specs.Profile.{is_protected}
 use Rattle.udf_volume_model.specs.Opened.{is_opened, is_protected_by, is_protected_image, difference}
 use Rattle.udf_volume_model.specs.Plans.{IsRewrite}

@@ -1,5 +1,5 @@
 -- What the steps of writing a plan leave of the files.
-use Rattle.std.proofs.Common.{◌≡◌, inl, inr, ⊎_elim, ◌≤◌, ◌<◌, ℕ, List, length, get_or, sym, ◌∙◌, ap, subst, Result, Ok, Err, OnOk}
+use Rattle.std.proofs.Common.{◌≡◌, inl, inr, ⊎_elim, ◌<◌, ℕ, List, length, get_or, sym, ◌∙◌, ap, subst, Result, Ok, Err, OnOk}
 use Rattle.udf_outside.specs.declared.bench.Role.TheVariants.{Image, Side}
 use Rattle.udf_outside.specs.Stops.{Held, Pair, bytes_of, pair_of, moment, IsSettled, LeavesOnly}
 use Rattle.udf_outside.proofs.Moments.{seen_now, now_counts}

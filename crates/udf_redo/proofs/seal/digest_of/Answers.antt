@@ -1,4 +1,4 @@
-use Rattle.std.proofs.Common.{◌≡◌, ◌++◌, ◌+◌, ◌*◌, List, ℕ, ◌∙◌, ap, subst, arith}
+use Rattle.std.proofs.Common.{◌≡◌, ◌++◌, ◌+◌, ◌*◌, List, ℕ, ◌∙◌, ap, subst}
 use Rattle.sha2.specs.Hashers.{Holds256}
 use Rattle.udf_model.specs.Image.{block_of}
 use Rattle.udf_outside.specs.Stops.{Held, bytes_of, slice_of}

@@ -1,4 +1,4 @@
-use Rattle.std.proofs.Common.{◌≡◌, ◌≤◌, ◌*◌}
+use Rattle.std.proofs.Common.{◌≡◌, ◌*◌}
 use Rattle.sha2.specs.Hashers.{Holds256}
 use Rattle.udf_outside.specs.Stops.{bytes_of, slice_of}
 use Rattle.udf_outside.specs.declared.bench.Role.TheVariants.{Image}

@@ -4,7 +4,7 @@ use Rattle.udf_outside.specs.declared.bench.Role.TheVariants.{Image}
 use Rattle.udf_volume_model.specs.Opened.{plan_of}
 use Rattle.udf_repair_model.specs.Accepted.{mend}
 use Rattle.udf_rules.specs.declared.finding.Finding.{Finding}
-use Rattle.udf_top.specs.Steps.{IsMending, IsMended}
+use Rattle.udf_top.specs.Steps.{IsMending}
 use Rattle.udf_volume_model.specs.Plans.{IsRewrite}
 use Rattle.udf_repair_model.proofs.Repair.{mend_rewrites}
 use Rattle.udf_top.proofs.Mending.{large, opened_ok_as, plan_is, written_is, text_is, mends_stopped, mends_broken}
