@@ -1,5 +1,5 @@
 //! A case.
-ghost use Rattle.std.specs.Prelude.{◌≡◌, ◌<◌, IfOk};
+ghost use Rattle.std.specs.Prelude.{◌≡◌, IfOk};
 ghost use Rattle.udf_outside.specs.Memory.{script_in};
 
 use crate::damage::hurt_by;

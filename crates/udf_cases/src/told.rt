@@ -1,6 +1,4 @@
 //! What a run printed and left, in words.
-ghost use Rattle.std.specs.Prelude.{◌≡◌};
-ghost use Rattle.udf_outside.specs.Memory.{script_in};
 
 use crate::log::{open, over};
 use crate::run::Run;

@@ -1,5 +1,5 @@
 //! Damages to an image.
-ghost use Rattle.std.specs.Prelude.{◌+◌, ◌*◌, ◌≤◌, ◌<◌, ◌≡◌, length};
+ghost use Rattle.std.specs.Prelude.{◌+◌, ◌<◌, ◌≡◌, length};
 
 use crate::block::DESCRIPTOR;
 use udf_field::{Fields, retag};

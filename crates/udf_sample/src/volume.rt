@@ -1,5 +1,5 @@
 //! Whole volumes.
-ghost use Rattle.std.specs.Prelude.{◌≡◌, ◌*◌, ◌≤◌, ◌<◌, ◌^◌, IfOk, vec_len};
+ghost use Rattle.std.specs.Prelude.{◌≡◌, ◌*◌, ◌<◌, IfOk, vec_len};
 
 use crate::block::{put, put_block, put_tag, tagged};
 use crate::descriptors::{
