@@ -348,13 +348,13 @@ fi
 # A side file that was made is on the medium with its name before it holds a byte.
 if strace -o /dev/null true 2>/dev/null; then
     fresh; zero 256 1
-    strace -o calls -e trace=openat,open,fsync,pwrite64,write "$program" -p -B 512 a.img >/dev/null 2>error
+    strace -o calls -e trace=openat,open,fsync,lseek,pwrite64,write "$program" -p -B 512 a.img >/dev/null 2>error
     name='the calls of a repair'
     folder=$(grep -n 'open.*"\."' calls | head -n 1 | cut -d : -f 1)
     synced=$(awk -v from="${folder:-0}" 'NR > from && /^fsync/ { print NR; exit }' calls)
     written=$(grep -n '^pwrite64' calls | head -n 1 | cut -d : -f 1)
     holds 'the folder is synced before the first write' [ "${synced:-999999}" -lt "${written:-0}" ]
-    holds 'no call seeks for a block' [ "$(grep -c pwrite64 calls)" -ge 5 ]
+    holds 'a file is sought in for its length alone' [ "$(grep -c '^lseek' calls)" -le 2 ]
 else
     echo 'skipped without strace: the sync of the folder of a new side file'
 fi

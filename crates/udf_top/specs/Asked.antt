@@ -1,9 +1,9 @@
 -- What the code reads from words, in the terms of the definitions.
 use Rattle.std.specs.Prelude.{◌≡◌, ℕ, Option, Some, None, List, Result, Ok, Err}
 use Rattle.udf_top.specs.declared.outcome.Cause.{Cause}
-use Rattle.udf_top.specs.declared.words.Work.{Work}
-use Rattle.udf_top.specs.declared.words.Work.TheVariants as work
-use Rattle.udf_top.specs.declared.words.Command.{Command}
+use Rattle.udf_top.specs.declared.udffsck.words.Work.{Work}
+use Rattle.udf_top.specs.declared.udffsck.words.Work.TheVariants as work
+use Rattle.udf_top.specs.declared.udffsck.words.Command.{Command}
 use Rattle.udf_top.specs.Words as words
 use Rattle.udf_top.specs.Words.{default_side}
 

@@ -9,7 +9,7 @@ use Rattle.udf_volume.specs.declared.missing.LayerStop.TheVariants as stops
 use Rattle.udf_volume.specs.Writable.{opened_writable}
 use Rattle.udf_redo.specs.Log.{head_in, sealed_in}
 use Rattle.udf_redo.specs.Settled.{settled, CanGoOn, IsFree, SameElsewhere}
-use Rattle.udf_top.specs.declared.mend.Inspected.{Inspected}
+use Rattle.udf_top.specs.declared.udffsck.mend.Inspected.{Inspected}
 use Rattle.udf_rules.specs.Found.{findings_in}
 use Rattle.udf_top.specs.declared.outcome.Outcome.{Outcome}
 use Rattle.udf_top.specs.Repairing.{mend_of, logged, log_size}

@@ -4,16 +4,11 @@
 //! which a program ends. It stands on volumes, plans, the redo log and the outside.
 #![tactic(auto)]
 
-mod check;
 mod laws;
-mod mend;
 mod outcome;
-mod repair;
 mod say;
-mod settle;
 mod text;
 mod udffsck;
-mod words;
 
 pub use laws::{chain_law, clean_law, rerun_law};
 pub use outcome::{Cause, Outcome, status};

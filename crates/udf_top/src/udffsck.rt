@@ -17,12 +17,18 @@ ghost use Rattle.udf_top.specs.Headline.{Repairs};
 ghost use Rattle.udf_top.specs.Udffsck.{outcome_beside, outcome_of, said_beside, output_of, text_by, HoldsFront};
 
 use crate::Outcome;
-use crate::check::check;
-use crate::repair::repair;
 use crate::say::say;
-use crate::words::{Work, command_of, side_name};
+use check::check;
+use repair::repair;
 use std::alloc::Global;
 use udf_outside::{Bench, Sink};
+use words::{Work, command_of, side_name};
+
+pub(crate) mod check;
+pub(crate) mod mend;
+pub(crate) mod repair;
+pub(crate) mod settle;
+pub(crate) mod words;
 
 // A repair beside the side file that the words name.
 fn repair_beside<B: Bench, O: Sink>(

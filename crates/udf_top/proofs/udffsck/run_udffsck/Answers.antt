@@ -1,6 +1,6 @@
 use Rattle.std.proofs.Common.{◌++◌, ℕ, refl, sym, ◌∙◌, ap, subst, List, Some, Ok, Err}
 use Rattle.udf_outside.specs.Stops.{pair_of}
-use Rattle.udf_top.specs.declared.words.Work.{Work}
+use Rattle.udf_top.specs.declared.udffsck.words.Work.{Work}
 use Rattle.udf_top.specs.Asked.{side_seen}
 use Rattle.udf_top.specs.Texts.{text_of}
 use Rattle.udf_top.specs.Endings.{HasEnded}

@@ -7,7 +7,7 @@ use Rattle.udf_redo.specs.declared.side.SideState.{SideState}
 use Rattle.udf_redo.specs.declared.stop.RedoStop.{RedoStop}
 use Rattle.udf_top.specs.Repairing.{replaying}
 use Rattle.udf_top.proofs.Settling as settling
-use Rattle.udf_top.proofs.settle.settle.Goals as goal
+use Rattle.udf_top.proofs.udffsck.settle.settle.Goals as goal
 
 pub returns-in-Ok-Empty-clause-answer : goal.returns-in-Ok-Empty-clause-answer
 returns-in-Ok-Empty-clause-answer g c tells = settling.replaying_empty _ _ (c.in-Ok-Empty.ensures.state tells ∙ ap (λ (s : SideState). Ok s) c.in-Ok-Empty.field-0-is)

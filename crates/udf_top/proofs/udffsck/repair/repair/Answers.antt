@@ -10,7 +10,7 @@ use Rattle.udf_top.specs.declared.outcome.Outcome.TheVariants as outcome
 use Rattle.udf_top.proofs.Mending.{large}
 use Rattle.udf_top.proofs.Safe.{HasBegun, unbegun, begun}
 use Rattle.udf_top.proofs.Ends as ends
-use Rattle.udf_top.proofs.repair.repair.Goals as goal
+use Rattle.udf_top.proofs.udffsck.repair.repair.Goals as goal
 
 pub returns-in_default-clause-repairs : goal.returns-in_default-clause-repairs
 returns-in_default-clause-repairs g c tells =

@@ -8,7 +8,7 @@ use Rattle.udf_top.specs.Repairing.{written_in, mend_said}
 use Rattle.udf_top.specs.Steps.{Says}
 use Rattle.udf_top.proofs.Mending.{clean_text, said_ok, said_refused, empty_is, mends_stopped, mends_refused, mends_unbroken}
 use Rattle.udf_top.proofs.Said.{says_same}
-use Rattle.udf_top.proofs.mend.mend.Goals as goal
+use Rattle.udf_top.proofs.udffsck.mend.mend.Goals as goal
 
 pub returns-then-is_empty-clause-mends : goal.returns-then-is_empty-clause-mends
 returns-then-is_empty-clause-mends g c tells =

@@ -13,9 +13,9 @@ ghost use Rattle.udf_top.specs.Steps.{Says};
 ghost use Rattle.udf_top.specs.Endings.{HasEnded};
 
 use crate::Outcome;
-use crate::mend::mend;
 use crate::say::{say, say_replayed};
-use crate::settle::{attach_files, settle};
+use crate::udffsck::mend::mend;
+use crate::udffsck::settle::{attach_files, settle};
 use std::alloc::Global;
 use udf_outside::{Bench, Sink};
 use udf_redo::RedoStop;

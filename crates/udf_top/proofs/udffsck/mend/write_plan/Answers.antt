@@ -9,7 +9,7 @@ use Rattle.udf_outside.proofs.Runs.{leaves_weaker}
 use Rattle.udf_redo.specs.Runs.{IsLogging}
 use Rattle.udf_top.specs.Steps.{IsMending}
 use Rattle.udf_top.proofs.Stepping.{logging, IsWritten, until_open, until_put, until_closed, open_applied, done_on}
-use Rattle.udf_top.proofs.mend.write_plan.Goals as goal
+use Rattle.udf_top.proofs.udffsck.mend.write_plan.Goals as goal
 
 pub returns-in_err-write_log-clause-moments : goal.returns-in_err-write_log-clause-moments
 returns-in_err-write_log-clause-moments g c tells after rewrites is_plan =

@@ -1,5 +1,5 @@
 use Rattle.udf_top.proofs.Outcomes.{refused}
-use Rattle.udf_top.proofs.check.check.Goals as goal
+use Rattle.udf_top.proofs.udffsck.check.check.Goals as goal
 
 pub returns-in-Err-Missing-clause-answers : goal.returns-in-Err-Missing-clause-answers
 returns-in-Err-Missing-clause-answers g c = λ tells ended.

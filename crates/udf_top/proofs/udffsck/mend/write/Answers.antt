@@ -1,6 +1,6 @@
 use Rattle.std.proofs.Common.{arith, refl, sym, ◌∙◌}
 use Rattle.udf_top.proofs.Mending.{large, quiet, mended_still, empty_plan}
-use Rattle.udf_top.proofs.mend.write.Goals as goal
+use Rattle.udf_top.proofs.udffsck.mend.write.Goals as goal
 
 pub returns-then-written-eq0-clause-moments : goal.returns-then-written-eq0-clause-moments
 returns-then-written-eq0-clause-moments g c tells after rewrites is_plan =
