@@ -1,5 +1,6 @@
 pub mod Gather
 pub mod Prevail
+pub mod Ranking
 pub mod Extents
 pub mod Listing
 pub mod Searching

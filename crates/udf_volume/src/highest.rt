@@ -16,7 +16,7 @@ fn is_about(descriptor: &Descriptor, kind: u16, subject: &[u8]) -> bool
 
 // The best of the front up to the descriptor at an index, which is of the kind and subject, from the best before it.
 #[tactic(auto, using(crate::proofs::Prevail::first, crate::proofs::Prevail::rises, crate::proofs::Prevail::stays))]
-fn higher(list: &[Descriptor], best: Option<usize>, at: usize) -> usize
+pub(crate) fn higher(list: &[Descriptor], best: Option<usize>, at: usize) -> usize
     requires inside { at < length list.now }
     requires best_inside { ForSome best (λ b. b < length list.now) }
     ensures best { (kind : ℕ) (subject : List ℕ) (descriptor : model.Descriptor) → IsBest kind subject list.now at best
