@@ -40,6 +40,7 @@ pub(crate) fn higher(list: &[Descriptor], best: Option<usize>, at: usize) -> usi
 pub fn prevailing_index(list: &[Descriptor], kind: u16, subject: &[u8]) -> Option<usize>
     ensures index { result ≡ index_of kind subject.now list.now }
     ensures inside { IfSome result (λ i. i < length list.now) }
+    ensures best { IsBest kind subject.now list.now (length list.now) result }
 {
     let mut best: Option<usize> = None;
     for (i, descriptor) in list.iter().enumerate() {

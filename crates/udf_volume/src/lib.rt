@@ -10,6 +10,7 @@ mod descriptor;
 mod highest;
 mod kept;
 mod layout;
+mod leading;
 mod matter;
 mod missing;
 mod open;
