@@ -34,13 +34,11 @@ pub(crate) fn higher(list: &[Descriptor], best: Option<usize>, at: usize) -> usi
     }
 }
 
-/// The index of the descriptor that prevails of a kind, which is the identifier of its tag, and a subject
-/// (`Descriptor::subject`).
-#[tactic(auto, using(crate::proofs::Prevail::begins, crate::proofs::Prevail::passes, crate::proofs::Prevail::is_found))]
-pub fn prevailing_index(list: &[Descriptor], kind: u16, subject: &[u8]) -> Option<usize>
-    ensures index { result ≡ index_of kind subject.now list.now }
-    ensures inside { IfSome result (λ i. i < length list.now) }
+/// The index of the best descriptor of a kind and subject.
+#[tactic(auto, using(crate::proofs::Prevail::begins, crate::proofs::Prevail::passes))]
+pub(crate) fn best_of(list: &[Descriptor], kind: u16, subject: &[u8]) -> Option<usize>
     ensures best { IsBest kind subject.now list.now (length list.now) result }
+    ensures inside { IfSome result (λ i. i < length list.now) }
 {
     let mut best: Option<usize> = None;
     for (i, descriptor) in list.iter().enumerate() {
@@ -49,6 +47,16 @@ pub fn prevailing_index(list: &[Descriptor], kind: u16, subject: &[u8]) -> Optio
         }
     }
     best
+}
+
+/// The index of the descriptor that prevails of a kind, which is the identifier of its tag, and a subject
+/// (`Descriptor::subject`).
+#[tactic(auto, using(crate::proofs::Prevail::is_found))]
+pub fn prevailing_index(list: &[Descriptor], kind: u16, subject: &[u8]) -> Option<usize>
+    ensures index { result ≡ index_of kind subject.now list.now }
+    ensures inside { IfSome result (λ i. i < length list.now) }
+{
+    best_of(list, kind, subject)
 }
 
 /// The descriptor that prevails of a kind and subject.

@@ -5,6 +5,7 @@ ghost use Rattle.udf_volume_model.specs.Prevailing.{prevailing_index as index_of
 ghost use Rattle.udf_volume.specs.Leads.{IsLeading};
 
 use crate::descriptor::{LOGICAL_VOLUME, PARTITION, PRIMARY};
+use crate::highest::best_of;
 use crate::profile::map_number;
 use crate::{Descriptor, prevailing_index};
 
@@ -18,14 +19,14 @@ pub(crate) struct Leading {
 }
 
 // The index of the descriptor that prevails of a kind that the list has and that has one subject.
-#[tactic(auto, using(crate::proofs::Leads::is_there))]
+#[tactic(auto, using(crate::proofs::Leads::is_there, crate::proofs::Prevail::is_found))]
 fn index_of_only(list: &[Descriptor], kind: u16) -> usize
     requires kind { (kind ≡ 1) ⊎ (kind ≡ 6) }
     requires there { has_id kind list.now ≡ true }
     ensures index { Some result ≡ index_of kind [] list.now }
     ensures inside { result < length list.now }
 {
-    prevailing_index(list, kind, &[]).unwrap()
+    best_of(list, kind, &[]).unwrap()
 }
 
 /// The descriptors by which a volume is stated, of a list that has a primary and a logical volume descriptor.

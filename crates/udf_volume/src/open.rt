@@ -106,13 +106,7 @@ fn is_protected(flags: u8) -> bool
 
 // What a kept sequence states, by its prevailing logical volume descriptor and the partition descriptor at an index.
 #[tactic(auto, unfolding(crate::specs::Opened::volume_by))]
-fn volume_of(
-    led: &Led,
-    size: u32,
-    blocks: u32,
-    logical: &Descriptor,
-    at: usize,
-) -> Volume
+fn volume_of(led: &Led, size: u32, blocks: u32, logical: &Descriptor, at: usize) -> Volume
     requires fits { (kept (led_seen led.now)).start + length_of led.now.descriptors.items < 2 ^ 32 }
     requires leading { IsLeading led.now.descriptors.items led.now.leading }
     requires partition { Some at ≡ index_of 5 (number_of_map logical.now.body) led.now.descriptors.items }
