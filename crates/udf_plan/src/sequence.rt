@@ -304,7 +304,8 @@ pub(crate) fn add_sequence<B: Bench>(
 {
     let kept = read_kept(alloc, bench, volume, block)?;
     let other = read_sequence(alloc, bench, volume, volume.other_extent(), block)?;
-    if sequences_agree(&kept, &other, volume.limit()) {
+    let agree = sequences_agree(alloc, &kept, &other, volume.limit())?;
+    if agree {
         return Ok(());
     }
     let logical = sector_of_logical(volume, &kept);

@@ -31,6 +31,7 @@ const RULE: u8 = 3;
 // Adds what is reported of the other sequence.
 #[tactic(auto, unfolding(crate::specs::Found::sequence_report))]
 fn report_sequences(
+    alloc: Global,
     findings: &mut Findings,
     volume: &Volume,
     kept: &DescriptorList,
@@ -41,7 +42,7 @@ fn report_sequences(
         (agrees kept.now.descriptors.items (whole_by (limit_stated volume.now) (listed_in other.now)))
         (other_span volume.now).start (length other.now.descriptors.items) (length kept.now.descriptors.items)) }
 {
-    if sequences_agree(&kept.descriptors, other, volume.limit()) {
+    if sequences_agree(alloc, &kept.descriptors, other, volume.limit())? {
         return Ok(());
     }
     findings.push(Finding {
@@ -71,6 +72,6 @@ pub(crate) fn check_sequences<B: Bench>(
 {
     let kept = read_sequence(alloc, bench, volume, volume.kept_extent(), block)?;
     let other = read_sequence(alloc, bench, volume, volume.other_extent(), block)?;
-    report_sequences(findings, volume, &kept, &other)?;
+    report_sequences(alloc, findings, volume, &kept, &other)?;
     Ok(())
 }

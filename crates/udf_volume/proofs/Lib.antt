@@ -1,5 +1,7 @@
 pub mod Gather
 pub mod Prevail
+pub mod Ranking
+pub mod Leads
 pub mod Extents
 pub mod Listing
 pub mod Searching

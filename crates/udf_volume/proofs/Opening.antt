@@ -17,7 +17,6 @@ use Rattle.udf_volume_model.specs.Profile.{has_block_size, has_domain, has_revis
 use Rattle.udf_volume_model.specs.Layout.{is_lawful}
 use Rattle.udf_volume.specs.declared.missing.ProfileItem.{ProfileItem}
 use Rattle.udf_volume.specs.declared.missing.ProfileItem.TheVariants as item
-use Rattle.udf_model.specs.Bytes as bytes
 use Rattle.udf_volume_model.specs.Sequence.{Descriptor}
 use Rattle.udf_volume_model.specs.Prevailing.{prevailing}
 use Rattle.udf_volume_model.specs.Kept as model
@@ -41,10 +40,6 @@ module _ (size blocks : ℕ) (volume : model.Volume) where
   logical_is : (found : Option Descriptor) → found ≡ prevailing 6 [] volume.list → logical volume.list ≡ body_of found
   unfolding logical
   logical_is found e = ap body_of (sym e)
-
-  pub not_logical : None ≡ prevailing 6 [] volume.list → None ≡ stated_in size blocks volume
-  unfolding is_built has_one_map bytes.number_at
-  not_logical e = sym (stated_by false (ap (λ l. has_one_map l && is_some (mapped_partition volume.list)) (logical_is None e)))
 
   pub not_mapped : (d : Descriptor) → Some d ≡ prevailing 6 [] volume.list → false ≡ has_one_map d.body → None ≡ stated_in size blocks volume
   unfolding is_built

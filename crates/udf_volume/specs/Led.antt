@@ -4,6 +4,7 @@ use Rattle.udf_volume_model.specs.Sequence.{Descriptor}
 use Rattle.udf_volume_model.specs.Anchor.{names_extents}
 use Rattle.udf_volume_model.specs.Kept.{Volume, is_complete, limit_of}
 use Rattle.udf_volume.specs.Seen.{anchor_seen, which_seen}
+use Rattle.udf_volume.specs.Leads.{IsLeading}
 use Rattle.udf_volume.specs.declared.sequence.DescriptorList.{DescriptorList}
 use Rattle.udf_volume.specs.declared.kept.Led.{Led}
 use Rattle.udf_volume.specs.declared.kept.Found.{Found}
@@ -26,6 +27,7 @@ pub record IsLed (size blocks : ℕ) (led : Led) : Type 0 where
   pub place : led.place < blocks
   pub extents : names_extents size blocks (anchor_seen led.anchor) ≡ true
   pub complete : is_complete (limit_of size (anchor_seen led.anchor)) led.descriptors.items ≡ true
+  pub leading : IsLeading led.descriptors.items led.leading
 
 abbrev pub Finds : Option Volume → Bool → Found → Type 0
 Finds volume any Nothing = (volume ≡ None) × (any ≡ false)

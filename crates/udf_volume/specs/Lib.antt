@@ -2,6 +2,7 @@ pub mod Causes
 pub mod Says
 pub mod Seen
 pub mod Best
+pub mod Leads
 pub mod Led
 pub mod Opened
 pub mod Areas

@@ -16,7 +16,7 @@ fn is_about(descriptor: &Descriptor, kind: u16, subject: &[u8]) -> bool
 
 // The best of the front up to the descriptor at an index, which is of the kind and subject, from the best before it.
 #[tactic(auto, using(crate::proofs::Prevail::first, crate::proofs::Prevail::rises, crate::proofs::Prevail::stays))]
-fn higher(list: &[Descriptor], best: Option<usize>, at: usize) -> usize
+pub(crate) fn higher(list: &[Descriptor], best: Option<usize>, at: usize) -> usize
     requires inside { at < length list.now }
     requires best_inside { ForSome best (λ b. b < length list.now) }
     ensures best { (kind : ℕ) (subject : List ℕ) (descriptor : model.Descriptor) → IsBest kind subject list.now at best
@@ -34,11 +34,10 @@ fn higher(list: &[Descriptor], best: Option<usize>, at: usize) -> usize
     }
 }
 
-/// The index of the descriptor that prevails of a kind, which is the identifier of its tag, and a subject
-/// (`Descriptor::subject`).
-#[tactic(auto, using(crate::proofs::Prevail::begins, crate::proofs::Prevail::passes, crate::proofs::Prevail::is_found))]
-pub fn prevailing_index(list: &[Descriptor], kind: u16, subject: &[u8]) -> Option<usize>
-    ensures index { result ≡ index_of kind subject.now list.now }
+/// The index of the best descriptor of a kind and subject.
+#[tactic(auto, using(crate::proofs::Prevail::begins, crate::proofs::Prevail::passes))]
+pub(crate) fn best_of(list: &[Descriptor], kind: u16, subject: &[u8]) -> Option<usize>
+    ensures best { IsBest kind subject.now list.now (length list.now) result }
     ensures inside { IfSome result (λ i. i < length list.now) }
 {
     let mut best: Option<usize> = None;
@@ -48,6 +47,16 @@ pub fn prevailing_index(list: &[Descriptor], kind: u16, subject: &[u8]) -> Optio
         }
     }
     best
+}
+
+/// The index of the descriptor that prevails of a kind, which is the identifier of its tag, and a subject
+/// (`Descriptor::subject`).
+#[tactic(auto, using(crate::proofs::Prevail::is_found))]
+pub fn prevailing_index(list: &[Descriptor], kind: u16, subject: &[u8]) -> Option<usize>
+    ensures index { result ≡ index_of kind subject.now list.now }
+    ensures inside { IfSome result (λ i. i < length list.now) }
+{
+    best_of(list, kind, subject)
 }
 
 /// The descriptor that prevails of a kind and subject.

@@ -13,18 +13,20 @@ ghost use Rattle.udf_volume.specs.Led.{listed_in, led_seen, IsLed, Finds, FindsL
 
 use crate::anchor::{Anchor, anchor_of, blocks_of};
 use crate::descriptor::{LOGICAL_VOLUME, PARTITION, PRIMARY};
+use crate::leading::{Leading, leading_of};
 use crate::{Descriptor, DescriptorList, Which, WorkStop, read_descriptors};
 use std::alloc::Global;
 use udf_field::Span;
 use udf_outside::{Bench, read_block};
 
-/// The kept anchor, and the descriptors of the sequence to which it leads.
+/// The kept anchor, the descriptors of the sequence to which it leads, and which of them lead.
 #[derive(Debug, Drop)]
 pub(crate) struct Led {
     pub place: u32,
     pub anchor: Anchor,
     pub which: Which,
     pub descriptors: Vec<Descriptor>,
+    pub leading: Leading,
 }
 
 /// What the places of anchors hold.
@@ -139,11 +141,13 @@ fn led_by<B: Bench>(
         limit,
         block,
     )? {
+        let leading = leading_of(&descriptors);
         return Ok(Some(Led {
             place,
             anchor,
             which: Which::Main,
             descriptors,
+            leading,
         }));
     }
     if let Some(descriptors) = whole_sequence(
@@ -155,11 +159,13 @@ fn led_by<B: Bench>(
         limit,
         block,
     )? {
+        let leading = leading_of(&descriptors);
         return Ok(Some(Led {
             place,
             anchor,
             which: Which::Reserve,
             descriptors,
+            leading,
         }));
     }
     Ok(None)

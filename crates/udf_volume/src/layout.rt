@@ -128,10 +128,10 @@ fn are_passed<B: Bench>(
     if place == volume.anchor {
         return Ok(true);
     }
-    read_block(bench, volume.size, place, block)?;
     if !lies_outside(areas, place) {
         return Ok(false);
     }
+    read_block(bench, volume.size, place, block)?;
     if anchor_of(block, place, volume.size, volume.blocks).is_some() {
         return Ok(false);
     }

@@ -1,25 +1,27 @@
 //! A volume from an image: the first refusal that applies, or what the prevailing descriptors state.
-ghost use Rattle.std.specs.Prelude.{◌≡◌, ◌+◌, ◌*◌, ◌/◌, ◌≤◌, ◌<◌, ◌^◌, ℕ, length as length_of, IfOk, IfErr, IfSome, if◌then◌else◌, Some, None, slice_index, take, drop};
+ghost use Rattle.std.specs.Prelude.{◌≡◌, ◌+◌, ◌*◌, ◌/◌, ◌≤◌, ◌<◌, ◌^◌, ℕ, length as length_of, IfOk, IfErr, IfSome, if◌then◌else◌, Some, None, slice_index, slice_get, take, drop};
 ghost use Rattle.udf_model.specs.Image.{block_of};
 ghost use Rattle.udf_outside.specs.Files.{IsAttached};
 ghost use Rattle.udf_outside.specs.Stops.{bytes_of};
 ghost use Rattle.udf_outside.specs.Reads.{OnlyReads};
 ghost use Rattle.udf_outside.specs.declared.bench.Role.TheVariants.{Image};
 ghost use Rattle.udf_volume_model.specs.Kept.{kept};
-ghost use Rattle.udf_volume_model.specs.Stated.{is_built};
+ghost use Rattle.udf_volume_model.specs.Sequence as model;
+ghost use Rattle.udf_volume_model.specs.Prevailing.{prevailing_index as index_of};
+ghost use Rattle.udf_volume_model.specs.Stated.{is_built, map_number as number_of_map};
 ghost use Rattle.udf_volume.specs.Laid.{IsLaidOut};
+ghost use Rattle.udf_volume.specs.Leads.{IsLeading};
 ghost use Rattle.udf_volume.specs.Led.{IsLed, led_seen};
 ghost use Rattle.udf_volume.specs.Refusals.{RefusesVolume};
 ghost use Rattle.udf_volume.specs.Opened.{volume_by, stated_in, sector_in, bitmap_in, is_guarded, accepted, opened, Answers, IsBounded};
 
 use crate::anchor::places_of;
-use crate::descriptor::{IMPLEMENTATION_USE, LOGICAL_VOLUME, PARTITION, PRIMARY, TAG};
+use crate::descriptor::{IMPLEMENTATION_USE, TAG};
 use crate::kept::{Found, Led, search};
 use crate::layout::is_lawful;
-use crate::profile::{has_one_map, map_number, unlike_profile};
+use crate::profile::{has_one_map, unlike_profile};
 use crate::{
-    Descriptor, LayerStop, Missing, ProfileItem, Shape, Upper, Volume, Which, prevailing,
-    prevailing_index,
+    Descriptor, LayerStop, Missing, ProfileItem, Shape, Upper, Volume, Which, prevailing_index,
 };
 use std::alloc::Global;
 use udf_field::{Fields, Short, Span};
@@ -75,14 +77,23 @@ fn kept_extent(led: &Led) -> Span
     }
 }
 
-// The sector of the descriptor that prevails in a kept sequence.
-#[tactic(auto, unfolding(crate::specs::Opened::sector_in))]
-fn sector_of(led: &Led, kind: u16, subject: &[u8]) -> Option<u32>
-    requires { (kept (led_seen led.now)).start + length_of led.now.descriptors.items < 2 ^ 32 }
-    ensures { result ≡ sector_in (led_seen led.now) kind subject.now }
+// The sector of a descriptor of a kept sequence.
+fn sector_at(led: &Led, index: usize) -> u32
+    requires inside { index < length_of led.now.descriptors.items }
+    requires fits { (kept (led_seen led.now)).start + length_of led.now.descriptors.items < 2 ^ 32 }
+    ensures { result ≡ (kept (led_seen led.now)).start + index }
 {
-    let index = prevailing_index(&led.descriptors, kind, subject)?;
-    Some(kept_extent(led).start + index as u32)
+    kept_extent(led).start + index as u32
+}
+
+// The sector of the descriptor with the volume's names that prevails in a kept sequence.
+#[tactic(auto, unfolding(crate::specs::Opened::sector_in), using(crate::proofs::Opening::information_is))]
+fn information_sector(led: &Led) -> Option<u32>
+    requires { (kept (led_seen led.now)).start + length_of led.now.descriptors.items < 2 ^ 32 }
+    ensures { result ≡ sector_in (led_seen led.now) 4 LV_INFO }
+{
+    let index = prevailing_index(&led.descriptors, IMPLEMENTATION_USE, &LV_INFO)?;
+    Some(sector_at(led, index))
 }
 
 // Whether a bit of write protection stands.
@@ -93,18 +104,17 @@ fn is_protected(flags: u8) -> bool
     flags & PROTECTION_BITS != 0
 }
 
-// What a kept sequence states, by its prevailing logical volume and partition descriptors.
-#[tactic(auto, using(crate::proofs::Extents::descriptors_in), unfolding(crate::specs::Opened::volume_by))]
-fn volume_of(
-    led: &Led,
-    size: u32,
-    blocks: u32,
-    logical: &Descriptor,
-    partition: &Descriptor,
-) -> Volume
-    requires { (kept (led_seen led.now)).start + length_of led.now.descriptors.items < 2 ^ 32 }
-    ensures { result ≡ volume_by size blocks (led_seen led.now) logical.now.body partition.now.body }
+// What a kept sequence states, by its prevailing logical volume descriptor and the partition descriptor at an index.
+#[tactic(auto, unfolding(crate::specs::Opened::volume_by))]
+fn volume_of(led: &Led, size: u32, blocks: u32, logical: &Descriptor, at: usize) -> Volume
+    requires fits { (kept (led_seen led.now)).start + length_of led.now.descriptors.items < 2 ^ 32 }
+    requires leading { IsLeading led.now.descriptors.items led.now.leading }
+    requires partition { Some at ≡ index_of 5 (number_of_map logical.now.body) led.now.descriptors.items }
+    requires inside { at < length_of led.now.descriptors.items }
+    ensures { (partition : model.Descriptor) → slice_get led.now.descriptors.items at ≡ Some partition
+        → result ≡ volume_by size blocks (led_seen led.now) logical.now.body partition.body }
 {
+    let partition = &led.descriptors[at];
     let logical_fields = logical.fields();
     let partition_fields = partition.fields();
     Volume {
@@ -115,10 +125,10 @@ fn volume_of(
         reserve: led.anchor.reserve,
         kept: led.which,
         count: led.descriptors.len() as u32,
-        pvd: sector_of(led, PRIMARY, &[]).unwrap_or(0),
-        lvd: sector_of(led, LOGICAL_VOLUME, &[]).unwrap_or(0),
-        pd: sector_of(led, PARTITION, map_number(logical)).unwrap_or(0),
-        info: sector_of(led, IMPLEMENTATION_USE, &LV_INFO),
+        pvd: sector_at(led, led.leading.primary),
+        lvd: sector_at(led, led.leading.logical),
+        pd: sector_at(led, at),
+        info: information_sector(led),
         shape: Shape {
             base: 0,
             sparing: None,
@@ -136,19 +146,19 @@ fn volume_of(
 }
 
 // What a kept sequence states, where its maps are built.
-#[tactic(auto, using(crate::proofs::Opening::not_logical, crate::proofs::Opening::not_mapped, crate::proofs::Opening::not_described, crate::proofs::Opening::described))]
 fn stated(led: &Led, size: u32, blocks: u32) -> Option<Volume>
     requires { IsLed size blocks led.now }
     ensures value { result ≡ stated_in size blocks (led_seen led.now) }
     ensures bounds { IfSome result (IsBounded size blocks) }
 {
-    let list = led.descriptors.as_slice();
-    let logical = prevailing(list, LOGICAL_VOLUME, &[])?;
+    let logical = &led.descriptors[led.leading.logical];
     if !has_one_map(&logical.fields()) {
         return None;
     }
-    let partition = prevailing(list, PARTITION, map_number(logical))?;
-    Some(volume_of(led, size, blocks, logical, partition))
+    let Some(at) = led.leading.partition else {
+        return None;
+    };
+    Some(volume_of(led, size, blocks, logical, at))
 }
 
 // The volume of a kept sequence, or the first refusal of it.

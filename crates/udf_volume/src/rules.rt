@@ -17,8 +17,9 @@ ghost use Rattle.udf_volume.specs.Areas.{anchor_stated};
 
 use crate::anchor::ANCHOR;
 use crate::kept::is_complete_list;
-use crate::{Descriptor, DescriptorList, Volume, WorkStop, prevailing};
-use std::alloc::Global;
+use crate::ranked::Ranked;
+use crate::{Descriptor, DescriptorList, Volume, WorkStop};
+use std::alloc::{AllocError, Global};
 use udf_field::{Fields, id_at};
 use udf_outside::{Bench, read_block};
 
@@ -82,45 +83,59 @@ fn are_same(a: Option<&Descriptor>, b: Option<&Descriptor>) -> bool
     }
 }
 
-// Whether the same descriptor of a kind and subject prevails in both lists.
+// Whether the same descriptor prevails in both lists of the kind and subject of a third one.
 #[tactic(auto, unfolding(udf_volume_model::specs::Rules::same_for))]
-fn prevails_alike(list: &[Descriptor], others: &[Descriptor], descriptor: &Descriptor) -> bool
+fn prevails_alike<'a>(list: &Ranked<'a>, others: &Ranked<'a>, descriptor: &'a Descriptor) -> bool
     ensures { result ≡ same_for list.now others.now descriptor.now }
 {
-    let (kind, subject) = (descriptor.id(), descriptor.subject());
-    are_same(
-        prevailing(list, kind, subject),
-        prevailing(others, kind, subject),
-    )
+    are_same(list.prevailing(descriptor), others.prevailing(descriptor))
 }
 
-fn all_prevail_alike(list: &[Descriptor], others: &[Descriptor], wanted: &[Descriptor]) -> bool
+fn all_prevail_alike<'a>(list: &Ranked<'a>, others: &Ranked<'a>, wanted: &'a [Descriptor]) -> bool
     ensures { result ≡ list_all (same_for list.now others.now) wanted.now }
 {
-    wanted
-        .iter()
-        .all(|descriptor| prevails_alike(list, others, descriptor))
+    for descriptor in wanted {
+        if !prevails_alike(list, others, descriptor) {
+            return false;
+        }
+    }
+    true
 }
 
-#[tactic(auto, using(crate::proofs::Agreeing::both))]
-fn prevail_alike(list: &[Descriptor], others: &[Descriptor]) -> bool
-    ensures { result ≡ same_prevailing list.now others.now }
+// Whether the same descriptors prevail in both lists.
+#[tactic(auto, using(crate::proofs::Agreeing::not_kept, crate::proofs::Agreeing::kept_and))]
+fn prevail_alike<'a>(
+    alloc: Global,
+    list: &'a [Descriptor],
+    others: &'a [Descriptor],
+) -> Result<bool, AllocError>
+    ensures { IfOk result (λ alike. alike ≡ same_prevailing list.now others.now) }
 {
-    let kept = all_prevail_alike(list, others, list);
-    let other = all_prevail_alike(list, others, others);
-    kept && other
+    let ranked = Ranked::of(alloc, list)?;
+    let ranked_others = Ranked::of(alloc, others)?;
+    if !all_prevail_alike(&ranked, &ranked_others, list) {
+        return Ok(false);
+    }
+    let alike = all_prevail_alike(&ranked, &ranked_others, others);
+    Ok(alike)
 }
 
-/// Whether the other sequence is whole, with fewer descriptors than a limit, and the kept descriptors prevail in it.
+/// Whether the other sequence is whole, with fewer descriptors than a limit, and the kept descriptors prevail in it. It takes
+/// n log n for n descriptors of both, and memory for an index of each.
 #[tactic(auto, using(crate::proofs::Agreeing::spoilt, crate::proofs::Agreeing::incomplete, crate::proofs::Agreeing::compared))]
-pub fn sequences_agree(kept: &[Descriptor], other: &DescriptorList, limit: u32) -> bool
-    ensures { result ≡ agrees kept.now (whole_by limit (listed_in other.now)) }
+pub fn sequences_agree(
+    alloc: Global,
+    kept: &[Descriptor],
+    other: &DescriptorList,
+    limit: u32,
+) -> Result<bool, AllocError>
+    ensures { IfOk result (λ agree. agree ≡ agrees kept.now (whole_by limit (listed_in other.now))) }
 {
     if other.is_spoilt {
-        return false;
+        return Ok(false);
     }
     if !is_complete_list(&other.descriptors, limit) {
-        return false;
+        return Ok(false);
     }
-    prevail_alike(kept, &other.descriptors)
+    prevail_alike(alloc, kept, &other.descriptors)
 }

@@ -1,4 +1,4 @@
-use Rattle.std.proofs.Common.{◌≡◌, ◌++◌, ℕ, List, true, false, ap, ◌∙◌}
+use Rattle.std.proofs.Common.{◌≡◌, ◌++◌, ℕ, List, true, false, ap, sym, ◌∙◌}
 use Rattle.udf_outside.specs.Stops.{bytes_of}
 use Rattle.udf_outside.specs.declared.bench.Role.TheVariants.{Image}
 use Rattle.udf_volume_model.specs.Sequence.{front_of, is_spoilt}
@@ -10,8 +10,8 @@ use Rattle.udf_plan.specs.Stated.{kept_list, copied, ended}
 use Rattle.udf_plan.proofs.Sequences.{compared, nothing, written}
 use Rattle.udf_plan.proofs.sequence.add_sequence.Goals as goal
 
-pub returns-then-sequences_agree-clause-added : goal.returns-then-sequences_agree-clause-added
-returns-then-sequences_agree-clause-added g c = λ tells.
+pub returns-then-agree-clause-added : goal.returns-then-agree-clause-added
+returns-then-agree-clause-added g c = λ tells.
     let v = c.args.volume.now in
     let image : List ℕ = bytes_of Image (g.B.Bench.held c.args.bench.now) in
     let kept : c.deref.result.now ≡ kept_list v image = c.deref.ensures.value ∙ c.in_ok-kept.ensures.list tells in
@@ -23,7 +23,7 @@ returns-then-sequences_agree-clause-added g c = λ tells.
     ∙ ap (λ e. is_spoilt (said_in v.size image e)) c.other_extent.ensures in
     nothing v image c.args.plan.now.blocks
     (compared v image c.deref.result.now c.in_ok-other.other.descriptors.items c.in_ok-other.other.is_spoilt true kept others spoilt
-    (c.if-sequences_agree.ensures ∙ ap (λ n. agrees c.deref.result.now (whole_by n (listed_in c.in_ok-other.other))) c.limit.ensures))
+    (sym c.if-agree.true ∙ c.in_ok-agree.ensures ∙ ap (λ n. agrees c.deref.result.now (whole_by n (listed_in c.in_ok-other.other))) c.limit.ensures))
 
 pub returns-clause-added : goal.returns-clause-added
 returns-clause-added g c = λ tells.
@@ -40,7 +40,7 @@ returns-clause-added g c = λ tells.
     let bench_held : g.B.Bench.held c.read_sequence.new.bench ≡ g.B.Bench.held c.args.bench.now = c.in_ok-other.ensures.reads.held ∙ c.in_ok-kept.ensures.reads.held in
     written v image c.args.plan.now.blocks c.add_copied.new.plan.blocks c.sector_of_logical-logical.result c.deref-2.result.now
     (compared v image c.deref.result.now c.in_ok-other.other.descriptors.items c.in_ok-other.other.is_spoilt false kept others spoilt
-    (c.if-sequences_agree.ensures ∙ ap (λ n. agrees c.deref.result.now (whole_by n (listed_in c.in_ok-other.other))) c.limit.ensures))
+    (sym c.if-agree.false ∙ c.in_ok-agree.ensures ∙ ap (λ n. agrees c.deref.result.now (whole_by n (listed_in c.in_ok-other.other))) c.limit.ensures))
     (c.deref-2.ensures.value ∙ list) c.sector_of_logical-logical.ensures.sector
     (c.in_ok-add_copied.ensures.added tells
     ∙ ap (λ h. c.args.plan.now.blocks ++ (copied v (bytes_of Image h) ++ ended v c.sector_of_logical-logical.result (bytes_of Image h))) bench_held)

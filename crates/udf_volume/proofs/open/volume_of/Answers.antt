@@ -1,18 +1,24 @@
-use Rattle.std.proofs.Common.{◌∙◌, ap, None, slice_index}
-use Rattle.std.specs.Prelude.{unwrap_or}
+use Rattle.std.proofs.Common.{◌≡◌, ◌∙◌, ap, [], None, slice_index}
+use Rattle.std.proofs.lemmas.Option.{get_or_from_slice_get}
 use Rattle.udf_model.specs.Bytes.{number_at}
+use Rattle.udf_volume_model.specs.Sequence.{Descriptor}
 use Rattle.udf_field.specs.FieldView.{span_at, long_at}
 use Rattle.udf_volume.specs.declared.volume.Upper.TheVariants.{Absent}
 use Rattle.udf_volume.specs.Led.{led_seen}
 use Rattle.udf_volume.specs.Opened.{volume_by, sector_in, bitmap_in, is_guarded}
 use Rattle.udf_volume.proofs.Opening.{which_back, information_is}
+use Rattle.udf_volume.proofs.Leads.{sector_is}
 use Rattle.udf_volume.proofs.open.volume_of.Goals as goal
 
 pub returns : goal.returns
 unfolding volume_by
-returns c =
+returns c = λ described here.
     let logical = c.fields-logical_fields.ensures.fields in
-    let partition = c.fields-partition_fields.ensures.fields in
+    let partition : c.fields-partition_fields.result ≡ described.body =
+    c.fields-partition_fields.ensures.fields
+    ∙ ap (λ (d : Descriptor). d.body) (c.index-partition.ensures ∙ get_or_from_slice_get c.args.led.now.descriptors.items c.args.at described _ here) in
+    let led = led_seen c.args.led.now in
+    let leading = c.requires.leading in
     λ i. record {
       size = c.args.size;
       blocks = c.args.blocks;
@@ -21,11 +27,10 @@ returns c =
       reserve = c.args.led.now.anchor.reserve;
       kept = which_back c.args.led.now.which i;
       count = (c.len.ensures ∙ c.args.led.now.descriptors.ok.0) i;
-      pvd = (c.unwrap_or.ensures ∙ ap (λ o. unwrap_or o 0) c.sector_of.ensures) i;
-      lvd = (c.unwrap_or-2.ensures ∙ ap (λ o. unwrap_or o 0) c.sector_of-2.ensures) i;
-      pd = (c.unwrap_or-3.ensures ∙ ap (λ o. unwrap_or o 0)
-          (c.sector_of-3.ensures ∙ ap (sector_in (led_seen c.args.led.now) 5) c.map_number.ensures)) i;
-      info = (c.sector_of-4.ensures ∙ ap (sector_in (led_seen c.args.led.now) 4) information_is) i;
+      pvd = sector_is led 1 [] _ _ leading.primary c.sector_at.ensures i;
+      lvd = sector_is led 6 [] _ _ leading.logical c.sector_at-2.ensures i;
+      pd = sector_is led 5 _ _ _ c.requires.partition c.sector_at-3.ensures i;
+      info = (c.information_sector.ensures ∙ ap (sector_in led 4) information_is) i;
       shape = record { base = 0; sparing = None; upper = Absent };
       start = (c.u32_at.ensures ∙ ap (λ b. number_at 4 b 172) partition) i;
       length = (c.u32_at-2.ensures ∙ ap (λ b. number_at 4 b 176) partition) i;

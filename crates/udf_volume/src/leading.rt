@@ -1,0 +1,46 @@
+// The descriptors by which a volume is stated, found once in a kept sequence (ECMA-167 3/8.4.3).
+ghost use Rattle.std.specs.Prelude.{◌≡◌, ◌<◌, ◌⊎◌, [], length, Some, true};
+ghost use Rattle.udf_volume_model.specs.Kept.{has_id};
+ghost use Rattle.udf_volume_model.specs.Prevailing.{prevailing_index as index_of};
+ghost use Rattle.udf_volume.specs.Leads.{IsLeading};
+
+use crate::descriptor::{LOGICAL_VOLUME, PARTITION, PRIMARY};
+use crate::highest::best_of;
+use crate::profile::map_number;
+use crate::{Descriptor, prevailing_index};
+
+/// The descriptors that prevail in a list and by which a volume is stated, by their indexes.
+#[derive(Clone, Copy, Debug)]
+pub(crate) struct Leading {
+    pub primary: usize,
+    pub logical: usize,
+    /// That with the partition number of the first map, where there is one.
+    pub partition: Option<usize>,
+}
+
+// The index of the descriptor that prevails of a kind that the list has and that has one subject.
+#[tactic(auto, using(crate::proofs::Leads::is_there, crate::proofs::Prevail::is_found))]
+fn index_of_only(list: &[Descriptor], kind: u16) -> usize
+    requires kind { (kind ≡ 1) ⊎ (kind ≡ 6) }
+    requires there { has_id kind list.now ≡ true }
+    ensures index { Some result ≡ index_of kind [] list.now }
+    ensures inside { result < length list.now }
+{
+    best_of(list, kind, &[]).unwrap()
+}
+
+/// The descriptors by which a volume is stated, of a list that has a primary and a logical volume descriptor.
+pub(crate) fn leading_of(list: &[Descriptor]) -> Leading
+    requires primary { has_id 1 list.now ≡ true }
+    requires logical { has_id 6 list.now ≡ true }
+    ensures { IsLeading list.now result }
+{
+    let primary = index_of_only(list, PRIMARY);
+    let logical = index_of_only(list, LOGICAL_VOLUME);
+    let partition = prevailing_index(list, PARTITION, map_number(&list[logical]));
+    Leading {
+        primary,
+        logical,
+        partition,
+    }
+}
