@@ -1,5 +1,9 @@
 -- The block sizes of the profile, in bytes.
-use Rattle.std.specs.Prelude.{ℕ, Bool, ◌==◌, ◌||◌}
+use Rattle.std.specs.Prelude.{ℕ, Bool, ◌==◌, ◌||◌, List, [], ◌∷◌}
+
+-- ascending
+unfoldable pub sizes : List ℕ
+sizes = 512 ∷ 1024 ∷ 2048 ∷ 4096 ∷ []
 
 -- one of the four
 unfoldable pub is_size : ℕ → Bool

@@ -1,8 +1,11 @@
 -- When a run is clean, by the rules.
-use Rattle.std.proofs.Common.{◌≡◌, ℕ, zero, suc, List, [], ◌∷◌, refl, sym, ◌∙◌, ap, true, false, Result, Ok, Err, is_ok}
+use Rattle.std.proofs.Common.{◌≡◌, ℕ, zero, suc, List, [], ◌∷◌, refl, sym, ◌∙◌, ap, true, false, Option, Some, None, Result, Ok, Err, is_ok}
 use Rattle.udf_outside.specs.Stops.{Pair}
+use Rattle.udf_volume_model.specs.Size.{size_of}
 use Rattle.udf_repair_model.specs.Accepted.{is_accepted, is_unbroken}
+use Rattle.udf_repair_model.specs.Sized.{accepted_by, is_accepted_as, unbroken_by, is_unbroken_as}
 use Rattle.udf_volume.specs.declared.missing.Missing.{Missing}
+use Rattle.udf_volume.specs.declared.missing.Missing.TheVariants.{Anchor}
 use Rattle.udf_volume.specs.declared.volume.Volume.{Volume}
 use Rattle.udf_volume.specs.Opened.{opened}
 use Rattle.udf_volume.specs.Writable.{opened_writable}
@@ -13,8 +16,8 @@ use Rattle.udf_redo.specs.Settled.{settled}
 use Rattle.udf_rules.specs.declared.finding.Finding.{Finding}
 use Rattle.udf_top.specs.declared.outcome.Outcome.TheVariants as outcome
 use Rattle.udf_rules.specs.Found.{findings_in}
-use Rattle.udf_top.specs.Repairing.{replaying, refused_log, repaired_as, mend_of, repair_from, repair_of, written_in}
-use Rattle.udf_top.specs.Udffsck.{by_findings, by_opened, check_of}
+use Rattle.udf_top.specs.Repairing.{replaying, refused_log, repaired_as, mend_of, mend_sized, repair_from, repair_of, written_in}
+use Rattle.udf_top.specs.Udffsck.{by_findings, by_opened, check_at, check_sized, check_of}
 use Rattle.udf_top.proofs.Mending.{accepted_ok, not_accepted, mend_ok, mend_refused, none_found, none_unbroken_image, unbroken_finds_none}
 
 -- no findings
@@ -35,21 +38,21 @@ not_clean stop.Fault e = absurd (cc)
 not_clean stop.Memory e = absurd (cc)
 
 module _ (size : ℕ) (image : List ℕ) where
-  check_as : (found : Result Volume Missing) → opened size image ≡ found → check_of size image ≡ by_opened found (findings_in size image)
-  unfolding check_of
+  check_as : (found : Result Volume Missing) → opened size image ≡ found → check_at size image ≡ by_opened found (findings_in size image)
+  unfolding check_at
   check_as found e = ap (λ (r : Result Volume Missing). by_opened r (findings_in size image)) e
 
-  pub clean_check : check_of size image ≡ outcome.Clean → (is_ok (opened size image) ≡ true) × (is_unbroken size image ≡ true)
-  clean_check clean = by_answer (opened size image) refl where
+  clean_at : check_at size image ≡ outcome.Clean → (is_ok (opened size image) ≡ true) × (is_unbroken size image ≡ true)
+  clean_at clean = by_answer (opened size image) refl where
     by_answer : (found : Result Volume Missing) → opened size image ≡ found → (is_ok (opened size image) ≡ true) × (is_unbroken size image ≡ true)
     by_answer (Ok volume) e =
         let d = opened_ok size image volume e in
         (ap is_ok e, none_found size image d.0 d.1.found (found_none (findings_in size image) (sym (check_as (Ok volume) e) ∙ clean)))
     by_answer (Err missing) e = absurd (let no : outcome.Refused missing ≡ outcome.Clean = sym (check_as (Err missing) e) ∙ clean in cc)
 
-  pub check_clean : is_ok (opened size image) ≡ true → is_unbroken size image ≡ true → check_of size image ≡ outcome.Clean
-  check_clean ok unbroken = by_answer (opened size image) refl where
-    by_answer : (found : Result Volume Missing) → opened size image ≡ found → check_of size image ≡ outcome.Clean
+  at_clean : is_ok (opened size image) ≡ true → is_unbroken size image ≡ true → check_at size image ≡ outcome.Clean
+  at_clean ok unbroken = by_answer (opened size image) refl where
+    by_answer : (found : Result Volume Missing) → opened size image ≡ found → check_at size image ≡ outcome.Clean
     by_answer (Ok volume) e = check_as (Ok volume) e ∙ ap by_findings (unbroken_finds_none size image unbroken)
     by_answer (Err missing) e = absurd (let no : true ≡ false = sym ok ∙ ap is_ok e in cc)
 
@@ -68,21 +71,57 @@ module _ (size : ℕ) (image : List ℕ) where
         mend_ok size image 0 volume e ∙ ap (λ (fs : List Finding). repaired_as 0 fs (written_in size image)) (unbroken_finds_none size image unbroken)
     by_answer (Err missing) e = absurd (let no : true ≡ false = sym accepted ∙ not_accepted size image missing e in cc)
 
-module _ (size : ℕ) (pair : Pair) where
-  repair_as : (answer : Result ℕ RedoStop) → replaying pair ≡ answer → repair_of size pair ≡ repair_from size answer (settled pair)
-  unfolding repair_of
-  repair_as answer e = ap (λ (r : Result ℕ RedoStop). repair_from size r (settled pair)) e
+-- at the block size that is given or found
+module _ (given : Option ℕ) (image : List ℕ) where
+  IsCleanAt : ℕ → Type 0
+  IsCleanAt size = (is_ok (opened size image) ≡ true) × (is_unbroken size image ≡ true)
 
-  pub clean_repair : repair_of size pair ≡ outcome.Clean
-      → (replaying pair ≡ Ok 0) × ((is_accepted size (settled pair) ≡ true) × (is_unbroken size (settled pair) ≡ true))
+  pub clean_check : check_of given image ≡ outcome.Clean → (size : ℕ) × ((size_of given image ≡ Some size) × IsCleanAt size)
+  clean_check clean = by_size (size_of given image) refl where
+    by_size : (found : Option ℕ) → size_of given image ≡ found → (size : ℕ) × ((size_of given image ≡ Some size) × IsCleanAt size)
+    by_size None e = absurd (let no : outcome.Refused Anchor ≡ outcome.Clean = sym (ap (λ (f : Option ℕ). check_sized f image) e) ∙ clean in cc)
+    by_size (Some size) e = (size, (e, clean_at size image (sym (ap (λ (f : Option ℕ). check_sized f image) e) ∙ clean)))
+
+  pub check_clean : (size : ℕ) → size_of given image ≡ Some size → is_ok (opened size image) ≡ true → is_unbroken size image ≡ true
+      → check_of given image ≡ outcome.Clean
+  check_clean size e ok unbroken = ap (λ (f : Option ℕ). check_sized f image) e ∙ at_clean size image ok unbroken
+
+  IsRepairClean : ℕ → Type 0
+  IsRepairClean replayed = (replayed ≡ 0) × ((is_accepted_as given image ≡ true) × (is_unbroken_as given image ≡ true))
+
+  clean_sized : (replayed : ℕ) → mend_sized (size_of given image) replayed image ≡ outcome.Clean → IsRepairClean replayed
+  clean_sized replayed clean = by_size (size_of given image) refl where
+    by_size : (found : Option ℕ) → size_of given image ≡ found → IsRepairClean replayed
+    by_size None e = absurd (let no : outcome.Refused Anchor ≡ outcome.Clean = sym (ap (λ (f : Option ℕ). mend_sized f replayed image) e) ∙ clean in cc)
+    by_size (Some size) e =
+        let is = mend_clean size image replayed (sym (ap (λ (f : Option ℕ). mend_sized f replayed image) e) ∙ clean) in
+        (is.0, (ap (λ (f : Option ℕ). accepted_by f image) e ∙ is.1.0, ap (λ (f : Option ℕ). unbroken_by f image) e ∙ is.1.1))
+
+  sized_clean : is_accepted_as given image ≡ true → is_unbroken_as given image ≡ true → mend_sized (size_of given image) 0 image ≡ outcome.Clean
+  sized_clean accepted unbroken = by_size (size_of given image) refl where
+    by_size : (found : Option ℕ) → size_of given image ≡ found → mend_sized (size_of given image) 0 image ≡ outcome.Clean
+    by_size None e = absurd (let no : false ≡ true = sym (ap (λ (f : Option ℕ). accepted_by f image) e) ∙ accepted in cc)
+    by_size (Some size) e =
+        ap (λ (f : Option ℕ). mend_sized f 0 image) e
+        ∙ clean_mend size image
+        (sym (ap (λ (f : Option ℕ). accepted_by f image) e) ∙ accepted)
+        (sym (ap (λ (f : Option ℕ). unbroken_by f image) e) ∙ unbroken)
+
+module _ (given : Option ℕ) (pair : Pair) where
+  repair_as : (answer : Result ℕ RedoStop) → replaying pair ≡ answer → repair_of given pair ≡ repair_from given answer (settled pair)
+  unfolding repair_of
+  repair_as answer e = ap (λ (r : Result ℕ RedoStop). repair_from given r (settled pair)) e
+
+  pub clean_repair : repair_of given pair ≡ outcome.Clean
+      → (replaying pair ≡ Ok 0) × ((is_accepted_as given (settled pair) ≡ true) × (is_unbroken_as given (settled pair) ≡ true))
   clean_repair clean = by_answer (replaying pair) refl where
     by_answer : (answer : Result ℕ RedoStop) → replaying pair ≡ answer
-        → (replaying pair ≡ Ok 0) × ((is_accepted size (settled pair) ≡ true) × (is_unbroken size (settled pair) ≡ true))
+        → (replaying pair ≡ Ok 0) × ((is_accepted_as given (settled pair) ≡ true) × (is_unbroken_as given (settled pair) ≡ true))
     by_answer (Ok k) e =
-        let is = mend_clean size (settled pair) k (sym (repair_as (Ok k) e) ∙ clean) in
+        let is = clean_sized given (settled pair) k (sym (repair_as (Ok k) e) ∙ clean) in
         (e ∙ ap (λ (n : ℕ). Ok n) is.0, is.1)
     by_answer (Err why) e = absurd (not_clean why (sym (repair_as (Err why) e) ∙ clean))
 
-  pub repair_clean : replaying pair ≡ Ok 0 → is_accepted size (settled pair) ≡ true → is_unbroken size (settled pair) ≡ true
-      → repair_of size pair ≡ outcome.Clean
-  repair_clean answer accepted unbroken = repair_as (Ok 0) answer ∙ clean_mend size (settled pair) accepted unbroken
+  pub repair_clean : replaying pair ≡ Ok 0 → is_accepted_as given (settled pair) ≡ true → is_unbroken_as given (settled pair) ≡ true
+      → repair_of given pair ≡ outcome.Clean
+  repair_clean answer accepted unbroken = repair_as (Ok 0) answer ∙ sized_clean given (settled pair) accepted unbroken

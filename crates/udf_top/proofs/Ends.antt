@@ -5,6 +5,7 @@ use Rattle.udf_outside.specs.declared.bench.Role.TheVariants.{Image, Side}
 use Rattle.udf_outside.specs.Stops.{Held, Pair, bytes_of, pair_of, moment, IsSettled, LeavesOnly}
 use Rattle.udf_outside.proofs.Moments.{seen_now, now_counts}
 use Rattle.udf_outside.proofs.Runs.{leaves_weaker, leaves_then}
+use Rattle.udf_volume_model.specs.Size.{size_of}
 use Rattle.udf_repair_model.specs.Accepted.{is_accepted, is_unbroken, mended, mend}
 use Rattle.udf_repair_model.proofs.Repair.{law, mend_accepted, still_accepted}
 use Rattle.udf_volume.specs.declared.missing.Missing.{Missing}
@@ -19,7 +20,7 @@ use Rattle.udf_top.specs.declared.outcome.Outcome.{Outcome}
 use Rattle.udf_top.specs.declared.outcome.Outcome.TheVariants as outcome
 use Rattle.udf_rules.specs.Found.{findings_in}
 use Rattle.udf_top.specs.Texts.{text_of, replayed_text}
-use Rattle.udf_top.specs.Repairing.{replaying, refused_log, repaired_as, mend_of, mend_said, written_in, repair_from, repair_of, said_from, repair_said}
+use Rattle.udf_top.specs.Repairing.{replaying, refused_log, repaired_as, mend_of, mend_said, said_sized, written_in, repair_from, repair_of, said_from, repair_said}
 use Rattle.udf_top.specs.Endings.{Ending, Mended, Told, DeviceFailed, Failed, ending_of, IsEnd, IsMendedOrFailed, IsUnopened, HasEnded, HasRepaired, HasRepairedOrFailed, HasOpenedNoGate}
 use Rattle.udf_top.specs.Headline.{IsDone, IsSafe, IsReplayed, Repairs}
 use Rattle.udf_top.specs.Steps.{IsSettling, IsMending, IsMended, Mends, Says}
@@ -59,9 +60,9 @@ no_gate result = by_ending (ending_of result) where
   by_ending DeviceFailed f = absurd (f tt)
   by_ending Failed f = absurd (f tt)
 
-module _ (size : ℕ) (old middle : Held) (has : HasBegun size old middle) (result : Outcome) where
+module _ (given : Option ℕ) (old middle : Held) (has : HasBegun given old middle) (result : Outcome) where
   -- a fault or want of memory came before the image was looked at
-  pub repairs_failed : (HasEnded result → ⊥) → (HasOpenedNoGate result → (middle ≡ old) ⊎ IsReplayed (pair_of old) middle) → Repairs size old middle result
+  pub repairs_failed : (HasEnded result → ⊥) → (HasOpenedNoGate result → (middle ≡ old) ⊎ IsReplayed (pair_of old) middle) → Repairs given old middle result
   repairs_failed failed replayed = record {
     moments = has.safe;
     complete = λ can accepted. failed_or result failed;
@@ -114,7 +115,7 @@ module _ (size : ℕ) (old middle : Held) (has : HasBegun size old middle) (resu
       by_stop stop.Fault e w = absurd (subst HasOpenedNoGate (told w) none)
       by_stop stop.Memory e w = memory w
 
-    pub repairs_unsettled : (why ≡ stop.Fault → result ≡ outcome.DeviceFault) → (why ≡ stop.Memory → middle ≡ old) → Repairs size old middle result
+    pub repairs_unsettled : (why ≡ stop.Fault → result ≡ outcome.DeviceFault) → (why ≡ stop.Memory → middle ≡ old) → Repairs given old middle result
     repairs_unsettled told memory = record {
       moments = has.safe;
       complete = λ can accepted. failed_or result (λ ended. not_ended why answers can (subst HasEnded (is ended) ended));
@@ -133,20 +134,20 @@ module _ (size : ℕ) (old middle : Held) (has : HasBegun size old middle) (resu
     answered stop.Fault e ended = absurd ended
     answered stop.Memory e ended = absurd ended
 
-    pub outcome_unsettled : HasEnded result → result ≡ repair_of size (pair_of old)
+    pub outcome_unsettled : HasEnded result → result ≡ repair_of given (pair_of old)
     unfolding repair_of
     outcome_unsettled ended =
-        is ended ∙ sym (ap (λ (r : Result ℕ RedoStop). repair_from size r (settled (pair_of old))) (answered why answers (subst HasEnded (is ended) ended)))
+        is ended ∙ sym (ap (λ (r : Result ℕ RedoStop). repair_from given r (settled (pair_of old))) (answered why answers (subst HasEnded (is ended) ended)))
 
     pub says_unsettled : (told : Option (List ℕ)) (before medium side : List ℕ) → Says told before (text_of side (refused_log why)) result
-        → Says told before (repair_said size medium side (pair_of old)) result
+        → Says told before (repair_said given medium side (pair_of old)) result
     unfolding repair_said text_of
     says_unsettled told before medium side says = by_stop why answers is says where
-      said : (w : RedoStop) → replaying (pair_of old) ≡ Err w → text_of side (refused_log w) ≡ said_from size medium side (replaying (pair_of old)) (settled (pair_of old))
-      said w e = sym (ap (λ (r : Result ℕ RedoStop). said_from size medium side r (settled (pair_of old))) e)
+      said : (w : RedoStop) → replaying (pair_of old) ≡ Err w → text_of side (refused_log w) ≡ said_from given medium side (replaying (pair_of old)) (settled (pair_of old))
+      said w e = sym (ap (λ (r : Result ℕ RedoStop). said_from given medium side r (settled (pair_of old))) e)
 
       by_stop : (w : RedoStop) → Answers {T = ℕ} (replaying (pair_of old)) (Err w) → (HasEnded result → result ≡ refused_log w) → Says told before (text_of side (refused_log w)) result
-          → Says told before (said_from size medium side (replaying (pair_of old)) (settled (pair_of old))) result
+          → Says told before (said_from given medium side (replaying (pair_of old)) (settled (pair_of old))) result
       by_stop stop.NotALog e i s = says_same told before _ _ result (said stop.NotALog e) s
       by_stop stop.BadLog e i s = says_same told before _ _ result (said stop.BadLog e) s
       by_stop (stop.WrongImage clash) e i s = says_same told before _ _ result (said (stop.WrongImage clash) e) s
@@ -155,26 +156,26 @@ module _ (size : ℕ) (old middle : Held) (has : HasBegun size old middle) (resu
 
   -- what was said where so many blocks were replayed
   module _ (replayed : ℕ) (answer : replaying (pair_of old) ≡ Ok replayed) where
-    said_is : (medium side : List ℕ) → replayed_text medium replayed ++ mend_said size medium (settled (pair_of old)) ≡ repair_said size medium side (pair_of old)
+    said_is : (medium side : List ℕ) → replayed_text medium replayed ++ said_sized (size_of given (settled (pair_of old))) medium (settled (pair_of old)) ≡ repair_said given medium side (pair_of old)
     unfolding repair_said
-    said_is medium side = sym (ap (λ (r : Result ℕ RedoStop). said_from size medium side r (settled (pair_of old))) answer)
+    said_is medium side = sym (ap (λ (r : Result ℕ RedoStop). said_from given medium side r (settled (pair_of old))) answer)
 
     pub says_stopped : (told : Option (List ℕ)) (before medium side : List ℕ) → HoldsFront told before (replayed_text medium replayed) → (HasEnded result → ⊥)
-        → Says told before (repair_said size medium side (pair_of old)) result
+        → Says told before (repair_said given medium side (pair_of old)) result
     says_stopped told before medium side front failed =
         says_same told before _ _ result (said_is medium side) (says_failed told before _ result (first_held told before _ _ front) failed)
 
-    pub says_mended : (told : Option (List ℕ)) (before medium side : List ℕ) → Says told (before ++ replayed_text medium replayed) (mend_said size medium (settled (pair_of old))) result
-        → Says told before (repair_said size medium side (pair_of old)) result
+    pub says_mended : (told : Option (List ℕ)) (before medium side : List ℕ) → Says told (before ++ replayed_text medium replayed) (said_sized (size_of given (settled (pair_of old))) medium (settled (pair_of old))) result
+        → Says told before (repair_said given medium side (pair_of old)) result
     says_mended told before medium side says = says_same told before _ _ result (said_is medium side) (says_then told before _ _ result says)
 
 -- what a repair beside the side file of this name says
-pub said_as : (wanted : Option (List ℕ)) (size : ℕ) (medium name side : List ℕ) (pair : Pair) → Some name ≡ wanted → side ≡ name → bytes_eq side medium ≡ false
-    → repair_said size medium side pair ≡ said_beside wanted size medium pair
-said_as wanted size medium name side pair is same apart =
-    sym (ap (λ (b : Bool). cond b (text_of medium outcome.SameFile) (repair_said size medium side pair)) apart)
-    ∙ ap (λ (n : List ℕ). said_beside (Some n) size medium pair) same
-    ∙ ap (λ (o : Option (List ℕ)). said_beside o size medium pair) is
+pub said_as : (wanted : Option (List ℕ)) (given : Option ℕ) (medium name side : List ℕ) (pair : Pair) → Some name ≡ wanted → side ≡ name → bytes_eq side medium ≡ false
+    → repair_said given medium side pair ≡ said_beside wanted given medium pair
+said_as wanted given medium name side pair is same apart =
+    sym (ap (λ (b : Bool). cond b (text_of medium outcome.SameFile) (repair_said given medium side pair)) apart)
+    ∙ ap (λ (n : List ℕ). said_beside (Some n) given medium pair) same
+    ∙ ap (λ (o : Option (List ℕ)). said_beside o given medium pair) is
 
 -- an accepted image is repaired
 accepted_ends : (size replayed : ℕ) (image : List ℕ) → is_accepted size image ≡ true → HasRepairedOrFailed (mend_of size replayed image)
@@ -196,7 +197,7 @@ repaired_accepted size replayed image repaired = by_opened (opened_writable size
   by_opened (Err missing) e = absurd (subst HasRepaired (mend_refused size image replayed missing e) repaired)
 
 -- The whole: `middle` is after the replay, `end` after the difference was written.
-module _ (size replayed : ℕ) (old middle end : Held) (result : Outcome) (large : 512 ≤ size) (has : HasBegun size old middle)
+module _ (size replayed : ℕ) (old middle end : Held) (result : Outcome) (large : 512 ≤ size) (has : HasBegun (Some size) old middle)
     (answer : replaying (pair_of old) ≡ Ok replayed) (moments : CanGoOn (pair_of old) → LeavesOnly old middle (IsSettling (pair_of old)))
     (image_is : bytes_of Image middle ≡ settled (pair_of old)) (free : IsFree (bytes_of Side middle)) (rests : IsSettled middle)
     (mends : Mends size replayed middle end result) where
@@ -206,27 +207,27 @@ module _ (size replayed : ℕ) (old middle end : Held) (result : Outcome) (large
   here : IsSettling (pair_of old) (pair_of middle)
   here = let all = moments can in all.each (pair_of middle) (now_counts middle (moment old) (pair_of middle) all.later (seen_now middle))
 
-  safe : LeavesOnly old end (IsSafe size (pair_of old))
+  safe : LeavesOnly old end (IsSafe (Some size) (pair_of old))
   safe =
-      leaves_then old middle end (IsSafe size (pair_of old)) has.safe
-      (leaves_weaker middle end (IsMending size (settled (pair_of old)) (mend size (settled (pair_of old)))) (IsSafe size (pair_of old))
+      leaves_then old middle end (IsSafe (Some size) (pair_of old)) has.safe
+      (leaves_weaker middle end (IsMending size (settled (pair_of old)) (mend size (settled (pair_of old)))) (IsSafe (Some size) (pair_of old))
       (λ pair is. safe_mending size (pair_of old) pair can (pair_of middle) large image_is here is)
       (subst (λ (v : List ℕ). LeavesOnly middle end (IsMending size v (mend size v))) image_is mends.moments))
 
   is_mend : HasEnded result → result ≡ mend_of size replayed (settled (pair_of old))
   is_mend ended = mends.outcome ended ∙ ap (mend_of size replayed) image_is
 
-  pub outcome_mended : HasEnded result → result ≡ repair_of size (pair_of old)
+  pub outcome_mended : HasEnded result → result ≡ repair_of (Some size) (pair_of old)
   unfolding repair_of
-  outcome_mended ended = is_mend ended ∙ sym (ap (λ (r : Result ℕ RedoStop). repair_from size r (settled (pair_of old))) answer)
+  outcome_mended ended = is_mend ended ∙ sym (ap (λ (r : Result ℕ RedoStop). repair_from (Some size) r (settled (pair_of old))) answer)
 
-  done : HasRepaired result → IsDone size (pair_of old) end
+  done : HasRepaired result → IsDone (Some size) (pair_of old) end
   done repaired =
       let j = settled (pair_of old) in
       let accepted = repaired_accepted size replayed j (subst HasRepaired (is_mend (ended_repaired result repaired)) repaired) in
       let is : IsMended (mend size j) end = subst (λ (v : List ℕ). IsMended (mend size v) end) image_is (mends.done repaired) in
       let made : bytes_of Image end ≡ mended size j = is.holds ∙ mend_accepted size j accepted in record {
-        holds = is.holds ∙ sym (target_goes (bytes_of Image old) (bytes_of Side old) size can);
+        holds = is.holds ∙ sym (target_goes (bytes_of Image old) (bytes_of Side old) (Some size) can);
         accepted = ap (is_accepted size) made ∙ still_accepted size j large accepted;
         unbroken = ap (is_unbroken size) made ∙ (law size j large accepted).rules;
         side = is.side;
@@ -240,7 +241,7 @@ module _ (size replayed : ℕ) (old middle end : Held) (result : Outcome) (large
     settled = subst (λ (h : Held). IsSettled h) (sym same) rests;
   }
 
-  pub repairs_mended : Repairs size old end result
+  pub repairs_mended : Repairs (Some size) old end result
   repairs_mended = record {
     moments = safe;
     complete = λ go accepted. ended_as result (mend_of size replayed (settled (pair_of old))) is_mend (accepted_ends size replayed (settled (pair_of old)) accepted);

@@ -9,20 +9,20 @@ use Rattle.udf_rules.specs.declared.finding.Finding.{Finding}
 use Rattle.udf_top.specs.declared.outcome.Outcome.TheVariants as outcome
 use Rattle.udf_rules.specs.Found.{findings_in}
 use Rattle.udf_top.specs.Texts.{replayed_text}
-use Rattle.udf_top.specs.Udffsck.{by_findings, by_opened, check_of, HoldsFront}
+use Rattle.udf_top.specs.Udffsck.{by_findings, by_opened, check_at, HoldsFront}
 
 -- the blocks of a volume lie in the image
 pub fits : (volume : Volume) (size length : ℕ) → 512 ≤ size → volume.size ≡ size → volume.blocks ≡ length / size → volume.blocks * volume.size ≤ length
 fits volume size length large same blocks =
     let e : length / size * size + length % size ≡ length = div-add-mod' length size in rw (same, blocks) (omega arith)
 
-pub refused : (size : ℕ) (image : List ℕ) (missing : Missing) → opened size image ≡ Err missing → outcome.Refused missing ≡ check_of size image
-unfolding check_of
+pub refused : (size : ℕ) (image : List ℕ) (missing : Missing) → opened size image ≡ Err missing → outcome.Refused missing ≡ check_at size image
+unfolding check_at
 refused size image missing e = sym (ap (λ (r : Result Volume Missing). by_opened r (findings_in size image)) e)
 
 pub examined : (size : ℕ) (image : List ℕ) (findings : List Finding) → ((volume : Volume) × (opened size image ≡ Ok volume)) → findings ≡ findings_in size image
-    → by_findings findings ≡ check_of size image
-unfolding check_of
+    → by_findings findings ≡ check_at size image
+unfolding check_at
 examined size image findings (volume, e) is = ap by_findings is ∙ sym (ap (λ (r : Result Volume Missing). by_opened r (findings_in size image)) e)
 
 pub nothing_of : (told : Option (List ℕ)) (before text : List ℕ) → told ≡ Some before → HoldsFront told before text

@@ -1,13 +1,14 @@
 -- Repairs after repairs.
-use Rattle.std.proofs.Common.{◌≡◌, inl, inr, ℕ, List, [], ◌∷◌, refl, sym, ◌∙◌}
-use Rattle.std.proofs.Common.{Ok}
+use Rattle.std.proofs.Common.{◌≡◌, inl, inr, ℕ, Option, Some, None, List, [], ◌∷◌, refl, sym, ◌∙◌}
+use Rattle.std.proofs.Common.{Ok, true, false}
 use Rattle.udf_outside.specs.declared.bench.Role.TheVariants.{Image, Side}
 use Rattle.udf_outside.specs.Stops.{Held, Pair, bytes_of, pair_of}
 use Rattle.udf_repair_model.proofs.Repair.{mend_stays}
 use Rattle.udf_redo.specs.declared.side.SideState.TheVariants.{Empty, Closed, Open}
 use Rattle.udf_redo.specs.Log.{head_in}
 use Rattle.udf_redo.specs.Settled.{settled, IsOpenLog, IsFree}
-use Rattle.udf_repair_model.specs.Accepted.{mend}
+use Rattle.udf_volume_model.specs.Size.{size_of}
+use Rattle.udf_repair_model.specs.Sized.{mend_as, mend_by, is_unbroken_as, unbroken_by}
 use Rattle.std.proofs.Common.{ap}
 use Rattle.udf_top.specs.Repairing.{target}
 use Rattle.udf_top.specs.Headline.{IsDone}
@@ -15,19 +16,26 @@ use Rattle.udf_top.specs.Chains.{AreLeft, last_of}
 use Rattle.udf_top.proofs.Settling.{settled_free}
 use Rattle.udf_top.proofs.Safe.{target_goes}
 
-pub chained : (size : ℕ) (start : Pair) (pairs : List Pair) → AreLeft size start pairs → target size (last_of start pairs) ≡ target size start
-chained size start [] left = refl
-chained size start (pair ∷ rest) left = chained size pair rest left.1 ∙ left.0.same_target
+-- an image that breaks no rule is its own mended one
+stays_as : (given : Option ℕ) (image : List ℕ) → is_unbroken_as given image ≡ true → mend_as given image ≡ image
+stays_as given image unbroken = by_size (size_of given image) unbroken where
+  by_size : (found : Option ℕ) → unbroken_by found image ≡ true → mend_by found image ≡ image
+  by_size None e = refl
+  by_size (Some size) e = mend_stays size image e
+
+pub chained : (given : Option ℕ) (start : Pair) (pairs : List Pair) → AreLeft given start pairs → target given (last_of start pairs) ≡ target given start
+chained given start [] left = refl
+chained given start (pair ∷ rest) left = chained given pair rest left.1 ∙ left.0.same_target
 
 pub not_open : (side image : List ℕ) → IsFree side → IsOpenLog side image → ⊥
 not_open side image (inl empty) log = absurd (let no : Ok Empty ≡ Ok (Open (head_in side)) = sym empty ∙ log.lawful in cc)
 not_open side image (inr closed) log = absurd (let no : Ok Closed ≡ Ok (Open (head_in side)) = sym closed ∙ log.lawful in cc)
 
-pub settled_done : (size : ℕ) (start : Pair) (end : Held) → IsDone size start end → settled (pair_of end) ≡ bytes_of Image end
-settled_done size start end done = settled_free (bytes_of Image end) (bytes_of Side end) done.side
+pub settled_done : (given : Option ℕ) (start : Pair) (end : Held) → IsDone given start end → settled (pair_of end) ≡ bytes_of Image end
+settled_done given start end done = settled_free (bytes_of Image end) (bytes_of Side end) done.side
 
-pub target_done : (size : ℕ) (start : Pair) (end : Held) → IsDone size start end → target size (pair_of end) ≡ bytes_of Image end
-target_done size start end done =
-    target_goes (bytes_of Image end) (bytes_of Side end) size (inl done.side)
-    ∙ ap (mend size) (settled_done size start end done)
-    ∙ mend_stays size (bytes_of Image end) done.unbroken
+pub target_done : (given : Option ℕ) (start : Pair) (end : Held) → IsDone given start end → target given (pair_of end) ≡ bytes_of Image end
+target_done given start end done =
+    target_goes (bytes_of Image end) (bytes_of Side end) given (inl done.side)
+    ∙ ap (mend_as given) (settled_done given start end done)
+    ∙ stays_as given (bytes_of Image end) done.unbroken

@@ -1,10 +1,11 @@
 -- What a stop leaves of a repair is safe.
-use Rattle.std.proofs.Common.{◌≡◌, ◌⊎◌, inl, inr, ⊎_elim, ◌≤◌, ℕ, List, length, get_or, refl, sym, ◌∙◌, ap, subst, Result, Ok, Err}
+use Rattle.std.proofs.Common.{◌≡◌, ◌⊎◌, inl, inr, ⊎_elim, ◌≤◌, ℕ, Option, Some, List, length, get_or, refl, sym, ◌∙◌, ap, subst, Result, Ok, Err}
 use Rattle.udf_outside.specs.declared.bench.Role.TheVariants.{Image, Side}
 use Rattle.udf_outside.specs.Stops.{Held, Pair, bytes_of, pair_of, IsSettled, LeavesOnly}
 use Rattle.udf_outside.proofs.Runs.{leaves_same, leaves_weaker}
 use Rattle.udf_volume_model.specs.Opened.{plan_of}
 use Rattle.udf_repair_model.specs.Accepted.{mend}
+use Rattle.udf_repair_model.specs.Sized.{mend_as}
 use Rattle.udf_repair_model.proofs.Repair.{mend_twice}
 use Rattle.udf_redo.specs.declared.side.SideState.{SideState}
 use Rattle.udf_redo.specs.declared.side.SideState.TheVariants.{Empty, Closed, Open}
@@ -49,14 +50,14 @@ module _ (image side : List ℕ) where
     by_answer (Ok k) e = gate_of (can_go k e)
     by_answer (Err why) e = inr (sym (settled_other image side (not_open why e)))
 
-  module _ (size : ℕ) where
-    pub target_goes : CanGoOn (image, side) → target size (image, side) ≡ mend size (settled (image, side))
+  module _ (given : Option ℕ) where
+    pub target_goes : CanGoOn (image, side) → target given (image, side) ≡ mend_as given (settled (image, side))
     unfolding target
-    target_goes can = ap (λ (r : Result ℕ RedoStop). target_by size r image (settled (image, side))) (goes can).1
+    target_goes can = ap (λ (r : Result ℕ RedoStop). target_by given r image (settled (image, side))) (goes can).1
 
 -- the start of a run is safe
-pub safe_self : (size : ℕ) (start : Pair) → IsSafe size start start
-safe_self size start = record {
+pub safe_self : (given : Option ℕ) (start : Pair) → IsSafe given start start
+safe_self given start = record {
   same_target = refl;
   gate = ⊎_elim (λ log. inl log) (λ same. inr (inl same)) (gate_here start.0 start.1);
   same_length = refl;
@@ -64,21 +65,22 @@ safe_self size start = record {
   same_seal = λ log. inl refl;
 }
 
-module _ (size : ℕ) (start pair : Pair) (can : CanGoOn start) where
-  pub safe_settling : IsSettling start pair → IsSafe size start pair
+module _ (given : Option ℕ) (start pair : Pair) (can : CanGoOn start) where
+  pub safe_settling : IsSettling start pair → IsSafe given start pair
   safe_settling is = record {
-    same_target = target_goes pair.0 pair.1 size is.goes_on ∙ ap (mend size) is.stands_for ∙ sym (target_goes start.0 start.1 size can);
+    same_target = target_goes pair.0 pair.1 given is.goes_on ∙ ap (mend_as given) is.stands_for ∙ sym (target_goes start.0 start.1 given can);
     gate = ⊎_elim (λ log. inl log) (λ same. inr (inl (same ∙ is.stands_for))) (gate_of pair.0 pair.1 is.goes_on);
     same_length = is.same_length;
     same_elsewhere = λ i log plan. is.same_elsewhere i log;
     same_seal = λ log. inl is.same_seal;
   }
 
+module _ (size : ℕ) (start pair : Pair) (can : CanGoOn start) where
   -- `middle` is the pair after the replay
-  pub safe_mending : (middle : Pair) → 512 ≤ size → middle.0 ≡ settled start → IsSettling start middle → IsMending size (settled start) (mend size (settled start)) pair → IsSafe size start pair
+  pub safe_mending : (middle : Pair) → 512 ≤ size → middle.0 ≡ settled start → IsSettling start middle → IsMending size (settled start) (mend size (settled start)) pair → IsSafe (Some size) start pair
   safe_mending middle large same before is =
-      let wanted : target size start ≡ mend size (settled start) = target_goes start.0 start.1 size can in record {
-        same_target = target_goes pair.0 pair.1 size is.goes_on
+      let wanted : target (Some size) start ≡ mend size (settled start) = target_goes start.0 start.1 (Some size) can in record {
+        same_target = target_goes pair.0 pair.1 (Some size) is.goes_on
             ∙ ⊎_elim (λ as_is. ap (mend size) as_is) (λ done. ap (mend size) done ∙ mend_twice size (settled start) large) is.stands_for
             ∙ sym wanted;
         gate = ⊎_elim (λ log. inl log)
@@ -93,10 +95,10 @@ module _ (size : ℕ) (start pair : Pair) (can : CanGoOn start) where
 
 -- nothing was written
 module _ (old new : Held) (rests : IsSettled old) (same : new ≡ old) where
-  pub safe_rest : (size : ℕ) → LeavesOnly old new (IsSafe size (pair_of old))
-  safe_rest size =
-      leaves_same old new (IsSafe size (pair_of old)) same
-      (λ pair now. subst (λ (p : Pair). IsSafe size (pair_of old) p) (sym (rests pair now)) (safe_self size (pair_of old)))
+  pub safe_rest : (given : Option ℕ) → LeavesOnly old new (IsSafe given (pair_of old))
+  safe_rest given =
+      leaves_same old new (IsSafe given (pair_of old)) same
+      (λ pair now. subst (λ (p : Pair). IsSafe given (pair_of old) p) (sym (rests pair now)) (safe_self given (pair_of old)))
 
   pub stands_rest : LeavesOnly old new (λ pair. settled pair ≡ settled (pair_of old))
   stands_rest =
@@ -104,26 +106,26 @@ module _ (old new : Held) (rests : IsSettled old) (same : new ≡ old) where
       (λ pair now. ap settled (rests pair now))
 
 -- What is known after a replay, or an attempt at one.
-pub record HasBegun (size : ℕ) (old middle : Held) : Type 0 where
-  pub safe : LeavesOnly old middle (IsSafe size (pair_of old))
+pub record HasBegun (given : Option ℕ) (old middle : Held) : Type 0 where
+  pub safe : LeavesOnly old middle (IsSafe given (pair_of old))
   pub stands : LeavesOnly old middle (λ pair. settled pair ≡ settled (pair_of old))
   pub still : (IsOpenLog (bytes_of Side old) (bytes_of Image old) → ⊥) → middle ≡ old
 
-pub unbegun : (size : ℕ) (old middle : Held) → IsSettled old → middle ≡ old → HasBegun size old middle
-unbegun size old middle rests same = record {
-  safe = safe_rest old middle rests same size;
+pub unbegun : (given : Option ℕ) (old middle : Held) → IsSettled old → middle ≡ old → HasBegun given old middle
+unbegun given old middle rests same = record {
+  safe = safe_rest old middle rests same given;
   stands = stands_rest old middle rests same;
   still = λ none. same;
 }
 
-pub begun : (size : ℕ) (old middle : Held) → IsSettled old → (CanGoOn (pair_of old) → LeavesOnly old middle (IsSettling (pair_of old)))
-    → ((IsOpenLog (bytes_of Side old) (bytes_of Image old) → ⊥) → middle ≡ old) → HasBegun size old middle
-begun size old middle rests moments still = by_answer (replaying (pair_of old)) refl where
-  by_answer : (answer : Result ℕ RedoStop) → replaying (pair_of old) ≡ answer → HasBegun size old middle
+pub begun : (given : Option ℕ) (old middle : Held) → IsSettled old → (CanGoOn (pair_of old) → LeavesOnly old middle (IsSettling (pair_of old)))
+    → ((IsOpenLog (bytes_of Side old) (bytes_of Image old) → ⊥) → middle ≡ old) → HasBegun given old middle
+begun given old middle rests moments still = by_answer (replaying (pair_of old)) refl where
+  by_answer : (answer : Result ℕ RedoStop) → replaying (pair_of old) ≡ answer → HasBegun given old middle
   by_answer (Ok k) e =
       let can = can_go (bytes_of Image old) (bytes_of Side old) k e in record {
-        safe = leaves_weaker old middle (IsSettling (pair_of old)) (IsSafe size (pair_of old)) (λ pair is. safe_settling size (pair_of old) pair can is) (moments can);
+        safe = leaves_weaker old middle (IsSettling (pair_of old)) (IsSafe given (pair_of old)) (λ pair is. safe_settling given (pair_of old) pair can is) (moments can);
         stands = leaves_weaker old middle (IsSettling (pair_of old)) (λ pair. settled pair ≡ settled (pair_of old)) (λ pair is. is.stands_for) (moments can);
         still = still;
       }
-  by_answer (Err why) e = unbegun size old middle rests (still (not_open (bytes_of Image old) (bytes_of Side old) why e))
+  by_answer (Err why) e = unbegun given old middle rests (still (not_open (bytes_of Image old) (bytes_of Side old) why e))

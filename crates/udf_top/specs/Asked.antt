@@ -13,7 +13,7 @@ side_seen (work.Repair None) medium = Some (default_side medium)
 side_seen (work.Repair (Some side)) medium = Some side.now
 
 abbrev pub command_seen : Command → words.Command
-command_seen command = record { size = command.size; medium = command.medium.now; side = side_seen command.work command.medium.now }
+command_seen command = record { size = Some command.size; medium = command.medium.now; side = side_seen command.work command.medium.now }
 
 abbrev pub Reads : Result words.Command Cause → Result Command Cause → Type 0
 Reads expected (Ok command) = expected ≡ Ok (command_seen command)

@@ -1,9 +1,10 @@
 -- What a repair promises of its files, from the start of the run to its end.
-use Rattle.std.specs.Prelude.{◌≡◌, ◌⊎◌, ℕ, true, length, slice_index}
+use Rattle.std.specs.Prelude.{◌≡◌, ◌⊎◌, ℕ, true, Option, Some, None, length, slice_index}
 use Rattle.udf_outside.specs.declared.bench.Role.TheVariants.{Image, Side}
 use Rattle.udf_outside.specs.Stops.{Held, Pair, bytes_of, pair_of, IsSettled, LeavesOnly}
 use Rattle.udf_volume_model.specs.Opened.{plan_of}
-use Rattle.udf_repair_model.specs.Accepted.{is_accepted, is_unbroken}
+use Rattle.udf_volume_model.specs.Size.{size_of}
+use Rattle.udf_repair_model.specs.Sized.{is_accepted_as, is_unbroken_as}
 use Rattle.udf_volume.specs.declared.missing.Missing.{Missing}
 use Rattle.udf_redo.specs.Log.{head_in, sealed_in}
 use Rattle.udf_redo.specs.Settled.{settled, IsOpenLog, IsFree, CanGoOn, IsElsewhere}
@@ -12,25 +13,30 @@ use Rattle.udf_top.specs.declared.outcome.Outcome.TheVariants as outcome
 use Rattle.udf_top.specs.Endings.{HasRepaired, HasRepairedOrFailed, HasOpenedNoGate}
 use Rattle.udf_top.specs.Repairing.{target, logged, log_size}
 
+-- The byte is in no block of this size in which the target differs from the settled image; without a size they do not differ.
+abbrev pub IsUnmended : Option ℕ → Option ℕ → Pair → ℕ → Type 0
+IsUnmended None given start i = Unit {0}
+IsUnmended (Some size) given start i = IsElsewhere size (plan_of size (settled start) (target given start)) i
+
 -- What a stop leaves of a repair that began with the pair `start`: a rerun has the same target, the image is the settled or the
 -- target one unless an open log of it lies beside it, it has its length and differs only in blocks of the log that was open at
 -- the start or of the difference, and while a log is open, what it seals is as in the image at the start or as settled.
-pub record IsSafe (size : ℕ) (start pair : Pair) : Type 0 where
-  pub same_target : target size pair ≡ target size start
-  pub gate : IsOpenLog pair.1 pair.0 ⊎ ((pair.0 ≡ settled start) ⊎ (pair.0 ≡ target size start))
+pub record IsSafe (given : Option ℕ) (start pair : Pair) : Type 0 where
+  pub same_target : target given pair ≡ target given start
+  pub gate : IsOpenLog pair.1 pair.0 ⊎ ((pair.0 ≡ settled start) ⊎ (pair.0 ≡ target given start))
   pub same_length : length pair.0 ≡ length start.0
   pub same_elsewhere : (i : ℕ) → IsElsewhere (log_size start) (logged start) i
-      → IsElsewhere size (plan_of size (settled start) (target size start)) i → slice_index pair.0 i ≡ slice_index start.0 i
+      → IsUnmended (size_of given (settled start)) given start i → slice_index pair.0 i ≡ slice_index start.0 i
   pub same_seal : IsOpenLog pair.1 pair.0
       → (sealed_in (head_in pair.1) pair.0 ≡ sealed_in (head_in pair.1) start.0)
       ⊎ (sealed_in (head_in pair.1) pair.0 ≡ sealed_in (head_in pair.1) (settled start))
 
 -- The files after a repair that ended: the image is the target, is accepted, and breaks no rule; no log is open; and nothing is
 -- pending.
-pub record IsDone (size : ℕ) (start : Pair) (end : Held) : Type 0 where
-  pub holds : bytes_of Image end ≡ target size start
-  pub accepted : is_accepted size (bytes_of Image end) ≡ true
-  pub unbroken : is_unbroken size (bytes_of Image end) ≡ true
+pub record IsDone (given : Option ℕ) (start : Pair) (end : Held) : Type 0 where
+  pub holds : bytes_of Image end ≡ target given start
+  pub accepted : is_accepted_as given (bytes_of Image end) ≡ true
+  pub unbroken : is_unbroken_as given (bytes_of Image end) ≡ true
   pub side : IsFree (bytes_of Side end)
   pub settled : IsSettled end
 
@@ -40,17 +46,18 @@ pub record IsReplayed (start : Pair) (end : Held) : Type 0 where
   pub side : IsFree (bytes_of Side end)
   pub settled : IsSettled end
 
--- From the start `old` to the end `new`, over files that are told:
-pub record Repairs (size : ℕ) (old new : Held) (result : Outcome) : Type 0 where
+-- From the start `old` to the end `new`, over files that are told, at the block size that is given, or else the one found in
+-- the settled image:
+pub record Repairs (given : Option ℕ) (old new : Held) (result : Outcome) : Type 0 where
   -- what a stop leaves at any moment of the run, for every outcome
-  pub moments : LeavesOnly old new (IsSafe size (pair_of old))
+  pub moments : LeavesOnly old new (IsSafe given (pair_of old))
   -- an image that is accepted as settled, beside a side file that a run can go on from, is repaired, or a fault or want of
   -- memory comes
-  pub complete : CanGoOn (pair_of old) → is_accepted size (settled (pair_of old)) ≡ true → HasRepairedOrFailed result
-  pub done : HasRepaired result → IsDone size (pair_of old) new
+  pub complete : CanGoOn (pair_of old) → is_accepted_as given (settled (pair_of old)) ≡ true → HasRepairedOrFailed result
+  pub done : HasRepaired result → IsDone given (pair_of old) new
   -- where no log of the image is open and no rule is broken, or the image is refused, nothing is written, and no stop leaves
   -- anything else
-  pub still : (IsOpenLog (bytes_of Side old) (bytes_of Image old) → ⊥) → is_unbroken size (bytes_of Image old) ≡ true → new ≡ old
+  pub still : (IsOpenLog (bytes_of Side old) (bytes_of Image old) → ⊥) → is_unbroken_as given (bytes_of Image old) ≡ true → new ≡ old
   pub refused : (IsOpenLog (bytes_of Side old) (bytes_of Image old) → ⊥) → (HasRepairedOrFailed result → ⊥) → new ≡ old
   -- a refused image is the settled one
   pub settled_only : (missing : Missing) → result ≡ outcome.Refused missing → IsReplayed (pair_of old) new

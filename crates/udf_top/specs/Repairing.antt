@@ -1,9 +1,12 @@
 -- What `udffsck -p` answers and prints, and the image that it ends in.
-use Rattle.std.specs.Prelude.{ℕ, zero, suc, if◌then◌else◌, List, [], ◌∷◌, ◌++◌, length, Result, Ok, Err}
+use Rattle.std.specs.Prelude.{ℕ, zero, suc, Option, Some, None, if◌then◌else◌, List, [], ◌∷◌, ◌++◌, length, Result, Ok, Err}
 use Rattle.udf_outside.specs.Stops.{Pair}
 use Rattle.udf_volume_model.specs.Opened.{difference}
+use Rattle.udf_volume_model.specs.Size.{size_of}
 use Rattle.udf_repair_model.specs.Accepted.{mend}
+use Rattle.udf_repair_model.specs.Sized.{mend_as}
 use Rattle.udf_volume.specs.declared.missing.Missing.{Missing}
+use Rattle.udf_volume.specs.declared.missing.Missing.TheVariants.{Anchor}
 use Rattle.udf_volume.specs.declared.volume.Volume.{Volume}
 use Rattle.udf_volume.specs.Writable.{opened_writable}
 use Rattle.udf_redo.specs.declared.side.SideState.{SideState}
@@ -54,14 +57,19 @@ mend_by (Ok volume) replayed findings written = repaired_as replayed findings wr
 unfoldable pub mend_of : ℕ → ℕ → List ℕ → Outcome
 mend_of size replayed image = mend_by (opened_writable size image) replayed (findings_in size image) (written_in size image)
 
-abbrev pub repair_from : ℕ → Result ℕ RedoStop → List ℕ → Outcome
-repair_from size (Err why) image = refused_log why
-repair_from size (Ok replayed) image = mend_of size replayed image
+-- the same at the block size that is given or found; without one the image is refused
+abbrev pub mend_sized : Option ℕ → ℕ → List ℕ → Outcome
+mend_sized None replayed image = outcome.Refused Anchor
+mend_sized (Some size) replayed image = mend_of size replayed image
+
+abbrev pub repair_from : Option ℕ → Result ℕ RedoStop → List ℕ → Outcome
+repair_from given (Err why) image = refused_log why
+repair_from given (Ok replayed) image = mend_sized (size_of given image) replayed image
 
 -- The outcome of a repair of these files, where nothing fails: why the side file is no log of the image, or else what is said
--- of the image that the files stand for.
-unfoldable pub repair_of : ℕ → Pair → Outcome
-repair_of size pair = repair_from size (replaying pair) (settled pair)
+-- of the image that the files stand for, at the given block size or the one that is found in it.
+unfoldable pub repair_of : Option ℕ → Pair → Outcome
+repair_of given pair = repair_from given (replaying pair) (settled pair)
 
 abbrev pub text_by_volume : List ℕ → Result Volume Missing → List Finding → ℕ → List ℕ
 text_by_volume medium (Err missing) findings written = text_of medium (outcome.Refused missing)
@@ -71,22 +79,26 @@ text_by_volume medium (Ok volume) findings written = mend_text medium findings w
 unfoldable pub mend_said : ℕ → List ℕ → List ℕ → List ℕ
 mend_said size medium image = text_by_volume medium (opened_writable size image) (findings_in size image) (written_in size image)
 
-abbrev pub said_from : ℕ → List ℕ → List ℕ → Result ℕ RedoStop → List ℕ → List ℕ
-said_from size medium side (Err why) image = text_of side (refused_log why)
-said_from size medium side (Ok replayed) image = replayed_text medium replayed ++ mend_said size medium image
+abbrev pub said_sized : Option ℕ → List ℕ → List ℕ → List ℕ
+said_sized None medium image = text_of medium (outcome.Refused Anchor)
+said_sized (Some size) medium image = mend_said size medium image
+
+abbrev pub said_from : Option ℕ → List ℕ → List ℕ → Result ℕ RedoStop → List ℕ → List ℕ
+said_from given medium side (Err why) image = text_of side (refused_log why)
+said_from given medium side (Ok replayed) image = replayed_text medium replayed ++ said_sized (size_of given image) medium image
 
 -- what a repair of these files prints, where nothing fails
-unfoldable pub repair_said : ℕ → List ℕ → List ℕ → Pair → List ℕ
-repair_said size medium side pair = said_from size medium side (replaying pair) (settled pair)
+unfoldable pub repair_said : Option ℕ → List ℕ → List ℕ → Pair → List ℕ
+repair_said given medium side pair = said_from given medium side (replaying pair) (settled pair)
 
 -- The image in which each repair of these files ends, and each chain of stops and repairs that ends: the mended one of what
 -- they stand for, or the image as it is where the side file is no log of it.
-abbrev pub target_by : ℕ → Result ℕ RedoStop → List ℕ → List ℕ → List ℕ
-target_by size (Ok replayed) image found = mend size found
-target_by size (Err why) image found = image
+abbrev pub target_by : Option ℕ → Result ℕ RedoStop → List ℕ → List ℕ → List ℕ
+target_by given (Ok replayed) image found = mend_as given found
+target_by given (Err why) image found = image
 
-unfoldable pub target : ℕ → Pair → List ℕ
-target size pair = target_by size (replaying pair) pair.0 (settled pair)
+unfoldable pub target : Option ℕ → Pair → List ℕ
+target given pair = target_by given (replaying pair) pair.0 (settled pair)
 
 -- the records of an open log of the image, and their block size
 abbrev pub logged_by : Result SideState RedoStop → Pair → List Edit

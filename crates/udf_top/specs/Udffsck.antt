@@ -2,7 +2,9 @@
 use Rattle.std.specs.Prelude.{◌≡◌, ℕ, if◌then◌else◌, Option, Some, None, List, [], ◌∷◌, ◌++◌, take, Result, Ok, Err}
 use Rattle.std.specs.Str.{bytes_eq}
 use Rattle.udf_outside.specs.Stops.{Pair}
+use Rattle.udf_volume_model.specs.Size.{size_of}
 use Rattle.udf_volume.specs.declared.missing.Missing.{Missing}
+use Rattle.udf_volume.specs.declared.missing.Missing.TheVariants.{Anchor}
 use Rattle.udf_volume.specs.declared.missing.LayerStop.{LayerStop}
 use Rattle.udf_volume.specs.declared.missing.LayerStop.TheVariants as stops
 use Rattle.udf_volume.specs.declared.volume.Volume.{Volume}
@@ -26,13 +28,21 @@ by_opened (Err missing) findings = outcome.Refused missing
 by_opened (Ok volume) findings = by_findings findings
 
 -- the outcome of a check of an image, where nothing fails: the first refusal that applies, or what breaks the rules
-unfoldable pub check_of : ℕ → List ℕ → Outcome
-check_of size image = by_opened (opened size image) (findings_in size image)
+unfoldable pub check_at : ℕ → List ℕ → Outcome
+check_at size image = by_opened (opened size image) (findings_in size image)
+
+-- the same at the block size that is given, or else found; without one the image is refused
+abbrev pub check_sized : Option ℕ → List ℕ → Outcome
+check_sized None image = outcome.Refused Anchor
+check_sized (Some size) image = check_at size image
+
+abbrev pub check_of : Option ℕ → List ℕ → Outcome
+check_of given image = check_sized (size_of given image) image
 
 -- a check, or a repair with this side file
-abbrev pub outcome_beside : Option (List ℕ) → ℕ → List ℕ → Pair → Outcome
-outcome_beside None size medium pair = check_of size pair.0
-outcome_beside (Some side) size medium pair = if bytes_eq side medium then outcome.SameFile else repair_of size pair
+abbrev pub outcome_beside : Option (List ℕ) → Option ℕ → List ℕ → Pair → Outcome
+outcome_beside None given medium pair = check_of given pair.0
+outcome_beside (Some side) given medium pair = if bytes_eq side medium then outcome.SameFile else repair_of given pair
 
 abbrev pub outcome_by : Result Command Cause → Pair → Outcome
 outcome_by (Err cause) pair = outcome.Usage cause
@@ -47,9 +57,9 @@ abbrev pub text_by : Result Command Cause → Outcome → List ℕ
 text_by (Err cause) = text_of []
 text_by (Ok command) = text_of command.medium
 
-abbrev pub said_beside : Option (List ℕ) → ℕ → List ℕ → Pair → List ℕ
-said_beside None size medium pair = text_of medium (check_of size pair.0)
-said_beside (Some side) size medium pair = if bytes_eq side medium then text_of medium outcome.SameFile else repair_said size medium side pair
+abbrev pub said_beside : Option (List ℕ) → Option ℕ → List ℕ → Pair → List ℕ
+said_beside None given medium pair = text_of medium (check_of given pair.0)
+said_beside (Some side) given medium pair = if bytes_eq side medium then text_of medium outcome.SameFile else repair_said given medium side pair
 
 abbrev pub said_by : Result Command Cause → Pair → List ℕ
 said_by (Err cause) pair = text_of [] (outcome.Usage cause)

@@ -4,9 +4,9 @@ use Rattle.std.specs.Str.{bytes_eq}
 use Rattle.udf_top.specs.declared.outcome.Cause.{Cause}
 use Rattle.udf_top.specs.declared.outcome.Cause.TheVariants.{Words, Value}
 
--- What a run is asked to do: the block size, the medium, and for a repair the side file.
+-- What a run is asked to do: the block size where it is given, the medium, and for a repair the side file.
 pub record Command : Type 0 where
-  pub size : ℕ
+  pub size : Option ℕ
   pub medium : List ℕ
   pub side : Option (List ℕ)
 
@@ -35,7 +35,7 @@ default_side medium = medium ++ codes ".redo"
 
 abbrev pub by_size : Option ℕ → List ℕ → Option (List ℕ) → Result Command Cause
 by_size None medium side = Err Value
-by_size (Some size) medium side = Ok (record { size = size; medium = medium; side = side })
+by_size (Some size) medium side = Ok (record { size = Some size; medium = medium; side = side })
 
 -- words with this size, medium and side file: the medium does not begin with `-`, and the size is one of the four
 unfoldable pub command_by : List ℕ → List ℕ → Option (List ℕ) → Result Command Cause
@@ -63,13 +63,13 @@ command_in words =
     else if length words == 6 then long_command words
     else Err Words
 
--- A repair: the block size, the medium, and a side file that is another file.
+-- A repair: the block size where it is given, the medium, and a side file that is another file.
 pub record Repair : Type 0 where
-  pub size : ℕ
+  pub size : Option ℕ
   pub medium : List ℕ
   pub side : List ℕ
 
-abbrev pub beside : Option (List ℕ) → ℕ → List ℕ → Option Repair
+abbrev pub beside : Option (List ℕ) → Option ℕ → List ℕ → Option Repair
 beside None size medium = None
 beside (Some side) size medium =
     if bytes_eq side medium then None else Some (record { size = size; medium = medium; side = side })

@@ -44,21 +44,21 @@ fn repair_beside<B: Bench, O: Sink>(
     requires size { is_size size ≡ true }
     requires settled { B.tells → IsSettled (B.held bench.old) }
     ensures outcome { B.tells → HasEnded result
-        → result ≡ outcome_beside (side_seen (Work.Repair named.entry) medium.now) size medium.now (pair_of (B.held bench.old)) }
+        → result ≡ outcome_beside (side_seen (Work.Repair named.entry) medium.now) (Some size) medium.now (pair_of (B.held bench.old)) }
     ensures said { B.tells → (before : List ℕ) → O.told out.old ≡ Some before → Says (O.told out.new) before
-        (said_beside (side_seen (Work.Repair named.entry) medium.now) size medium.now (pair_of (B.held bench.old))) result }
-    ensures unsaid { beside (side_seen (Work.Repair named.entry) medium.now) size medium.now ≡ None → (before : List ℕ)
+        (said_beside (side_seen (Work.Repair named.entry) medium.now) (Some size) medium.now (pair_of (B.held bench.old))) result }
+    ensures unsaid { beside (side_seen (Work.Repair named.entry) medium.now) (Some size) medium.now ≡ None → (before : List ℕ)
         → O.told out.old ≡ Some before → HasEnded result → O.told out.new ≡ Some (before ++ text_of medium.now result) }
     ensures device { result ≡ Outcome.DeviceFault → Rose (B.faults bench.old) (B.faults bench.new) }
     ensures out { result ≡ Outcome.OutFault → Rose (O.faults out.old) (O.faults out.new) }
     ensures usage { (cause : Cause) → result ≡ Outcome.Usage cause → ⊥ }
     ensures same_file { result ≡ Outcome.SameFile → names_one_by (side_seen (Work.Repair named.entry) medium.now) medium.now ≡ true }
     ensures same_names { names_one_by (side_seen (Work.Repair named.entry) medium.now) medium.now ≡ true → HasEnded result → result ≡ Outcome.SameFile }
-    ensures asked { (repair : Repair) → beside (side_seen (Work.Repair named.entry) medium.now) size medium.now ≡ Some repair
+    ensures asked { (repair : Repair) → beside (side_seen (Work.Repair named.entry) medium.now) (Some size) medium.now ≡ Some repair
         → AsksFor repair result (B.files bench.old) (B.files bench.new) }
-    ensures unasked { beside (side_seen (Work.Repair named.entry) medium.now) size medium.now ≡ None → B.files bench.new ≡ B.files bench.old }
-    ensures held { beside (side_seen (Work.Repair named.entry) medium.now) size medium.now ≡ None → B.held bench.new ≡ B.held bench.old }
-    ensures repairs { B.tells → (repair : Repair) → beside (side_seen (Work.Repair named.entry) medium.now) size medium.now ≡ Some repair
+    ensures unasked { beside (side_seen (Work.Repair named.entry) medium.now) (Some size) medium.now ≡ None → B.files bench.new ≡ B.files bench.old }
+    ensures held { beside (side_seen (Work.Repair named.entry) medium.now) (Some size) medium.now ≡ None → B.held bench.new ≡ B.held bench.old }
+    ensures repairs { B.tells → (repair : Repair) → beside (side_seen (Work.Repair named.entry) medium.now) (Some size) medium.now ≡ Some repair
         → Repairs repair.size (B.held bench.old) (B.held bench.new) result }
 {
     let Ok(name) = side_name(alloc, medium, named) else {

@@ -1,6 +1,7 @@
 pub mod Sequence
 pub mod Prevailing
 pub mod Anchor
+pub mod Size
 pub mod Kept
 pub mod Stated
 pub mod Areas

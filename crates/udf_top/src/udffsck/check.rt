@@ -8,7 +8,7 @@ ghost use Rattle.udf_volume.specs.declared.missing.Missing.{Missing};
 ghost use Rattle.udf_volume.specs.Refusals.{IsOfVolume, RefusesVolume};
 ghost use Rattle.udf_top.specs.declared.outcome.Cause.{Cause};
 ghost use Rattle.udf_top.specs.Endings.{HasEnded};
-ghost use Rattle.udf_top.specs.Udffsck.{check_of, by_findings, Examines};
+ghost use Rattle.udf_top.specs.Udffsck.{check_at, by_findings, Examines};
 
 use crate::{Findings, Outcome};
 use std::alloc::Global;
@@ -57,7 +57,7 @@ fn found(findings: Findings) -> Outcome
 pub(crate) fn check<B: Bench>(alloc: Global, size: u32, medium: &str, bench: &mut B) -> Outcome
     requires image { (B.files bench.old).image.asked ≡ None }
     requires large { 512 ≤ size }
-    ensures answers { B.tells → HasEnded result → result ≡ check_of size (bytes_of Image (B.held bench.old)) }
+    ensures answers { B.tells → HasEnded result → result ≡ check_at size (bytes_of Image (B.held bench.old)) }
     ensures asked { (B.files bench.new).image.asked ≡ Some Read }
     ensures named { IfSome (B.files bench.new).image.name (λ told. told ≡ medium.now) }
     ensures side { (B.files bench.new).side ≡ (B.files bench.old).side }

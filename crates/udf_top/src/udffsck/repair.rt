@@ -52,10 +52,10 @@ pub(crate) fn repair<B: Bench, O: Sink>(
     requires side { (B.files bench.old).side.asked ≡ None }
     requires size { is_size size ≡ true }
     requires settled { B.tells → IsSettled (B.held bench.old) }
-    ensures outcome { B.tells → HasEnded result → result ≡ repair_of size (pair_of (B.held bench.old)) }
+    ensures outcome { B.tells → HasEnded result → result ≡ repair_of (Some size) (pair_of (B.held bench.old)) }
     ensures said { B.tells → (before : List ℕ) → O.told out.old ≡ Some before
-        → Says (O.told out.new) before (repair_said size medium.now side.now (pair_of (B.held bench.old))) result }
-    ensures repairs { B.tells → Repairs size (B.held bench.old) (B.held bench.new) result }
+        → Says (O.told out.new) before (repair_said (Some size) medium.now side.now (pair_of (B.held bench.old))) result }
+    ensures repairs { B.tells → Repairs (Some size) (B.held bench.old) (B.held bench.new) result }
     ensures device { result ≡ Outcome.DeviceFault → Rose (B.faults bench.old) (B.faults bench.new) }
     ensures out { result ≡ Outcome.OutFault → Rose (O.faults out.old) (O.faults out.new) }
     ensures usage { (cause : Cause) → result ≡ Outcome.Usage cause → ⊥ }
