@@ -57,6 +57,13 @@ impl Plan {
         Ok(())
     }
 
+    /// The block size in bytes.
+    pub fn size(&self) -> u32
+        ensures { result ≡ self.now.size }
+    {
+        self.size
+    }
+
     /// The number of blocks.
     pub fn len(&self) -> u32
         ensures count { result ≡ length self.now.blocks }

@@ -7,14 +7,14 @@ use Rattle.std.proofs.Math.Nat.{mul-le-mul_right, div-mul-le_self}
 use Rattle.sha2.specs.Sha256.{sha256, digest_bytes}
 use Rattle.udf_outside.specs.Stops.{put}
 use Rattle.udf_redo.specs.Log.{Edit}
-use Rattle.udf_volume.specs.Spans.{kept_span}
-use Rattle.udf_volume.specs.declared.volume.Volume.{Volume}
+use Rattle.udf_blocks.specs.Planned.{Planned}
+use Rattle.udf_redo.specs.declared.seal.SealedRun.{SealedRun}
 use Rattle.udf_redo.specs.declared.head.LogHead.{LogHead}
 use Rattle.udf_redo.specs.declared.side.SideState.TheVariants.{Closed}
 use Rattle.udf_model.specs.Size.{is_size}
 use Rattle.udf_redo.specs.Log.{gate, head_in, records_of, is_head, are_lawful, is_log_of, sealed_in, state_of, head_bytes, record_bytes, opened}
 use Rattle.udf_redo.specs.Settled.{IsOpenLog}
-use Rattle.udf_redo.specs.Sealing.{head_for}
+use Rattle.udf_redo.specs.Sealing.{head_for, IsLoggable}
 use Rattle.udf_redo.specs.Front.{IsShut}
 use Rattle.udf_redo.proofs.States.{opens_state, state_closed}
 use Rattle.udf_redo.proofs.Reading.{Numbers, Blocks, Fits, laid, head_back, plan_back, grammar_back, put_laid, laid_long}
@@ -66,17 +66,17 @@ size_cases size test =
     (or_cases (size == 1024) ((size == 2048) || (size == 4096)) rest))
     (or_cases (size == 512) ((size == 1024) || ((size == 2048) || (size == 4096))) test)
 
-module _ (volume : Volume) (image : List ℕ) (edits : List Edit) (size : is_size volume.size ≡ true) (sealed : 1 ≤ volume.count) (inside : (kept_span volume).start + volume.count ≤ volume.blocks)
-    (range : volume.blocks < 2 ^ 32) (some : 1 ≤ length edits) (few : length edits < 2 ^ 32) where
+module _ (plan : Planned) (blocks : ℕ) (sealed : SealedRun) (image : List ℕ) (is : IsLoggable blocks sealed plan)
+    (range : blocks < 2 ^ 32) (few : length plan.blocks < 2 ^ 32) where
   abbrev head : LogHead
-  head = head_for volume image (length edits)
+  head = head_for plan blocks sealed image
 
   pub fits_for : Fits head
   fits_for = record {
-    size = omega (arith, (size_cases volume.size size).1);
+    size = omega (arith, (size_cases plan.size is.size).1);
     blocks = range;
-    first = omega arith;
-    sealed = omega arith;
+    first = omega (arith, is.some_sealed, is.sealed_inside);
+    sealed = omega (arith, is.some_sealed, is.sealed_inside);
     seal = length_digest _;
     records = few;
   }
@@ -84,13 +84,15 @@ module _ (volume : Volume) (image : List ℕ) (edits : List Edit) (size : is_siz
   pub head_for_lawful : is_head head ≡ true
   unfolding is_head
   head_for_lawful =
-      and_from _ _ size (and_from _ _ (lt-ltb 0 volume.count (omega arith)) (and_from _ _ (le-leb ((kept_span volume).start + volume.count) volume.blocks inside) (lt-ltb 0 (length edits) (omega arith))))
+      and_from _ _ is.size
+      (and_from _ _ (lt-ltb 0 sealed.count (omega (arith, is.some_sealed)))
+      (and_from _ _ (le-leb (sealed.first + sealed.count) blocks is.sealed_inside) (lt-ltb 0 (length plan.blocks) (omega (arith, is.some)))))
 
-  pub of_for : length image / volume.size ≡ volume.blocks → is_log_of head image ≡ true
+  pub of_for : length image / plan.size ≡ blocks → is_log_of head image ≡ true
   unfolding is_log_of sealed_in
-  of_for blocks = and_from _ _ (eq-eqb (length image / volume.size) volume.blocks blocks) ((bytes_eq-Decides head.seal head.seal).1 refl)
+  of_for count = and_from _ _ (eq-eqb (length image / plan.size) blocks count) ((bytes_eq-Decides head.seal head.seal).1 refl)
 
-  pub numbers_for : All (λ edit. edit.0 < volume.blocks) edits → Numbers edits
+  pub numbers_for : All (λ edit. edit.0 < blocks) plan.blocks → Numbers plan.blocks
   numbers_for below = λ k d lt. let h = below k d lt in omega arith
 
 -- so many blocks lie in an image of that many

@@ -1,13 +1,12 @@
--- What a plan for a volume says of each of its blocks.
+-- What a plan says of each of its blocks.
 use Rattle.std.proofs.Common.{◌≡◌, ◌<◌, ◌≤◌, ◌⊎◌, inl, inr, ⊎_elim, ℕ, ◌+◌, ◌*◌, ◌/◌, ◌==◌, nat_lt, not, Bool, true, List, [], ◌∷◌, length, subst, arith}
 use Rattle.std.specs.List.{All, list_all}
 use Rattle.std.proofs.lemmas.Bool.{and_parts, and_cases, eqb-true, ltb-true, leb-false, ltb-false, not-true}
 use Rattle.std.proofs.Math.Nat.{div-mul-le_self}
 use Rattle.udf_volume_model.specs.Areas.{covers}
-use Rattle.udf_volume.specs.Spans.{kept_span}
-use Rattle.udf_volume.specs.declared.volume.Volume.{Volume}
 use Rattle.udf_blocks.specs.Planned.{Planned, are_at, are_sized, IsLawful}
-use Rattle.udf_blocks.specs.PlanFor.{sealed_stated, IsPlanFor}
+use Rattle.udf_redo.specs.declared.seal.SealedRun.{SealedRun}
+use Rattle.udf_redo.specs.Sealing.{sealed_area, IsLoggable}
 use Rattle.udf_redo.specs.Log.{Edit}
 use Rattle.udf_redo.proofs.Lawful.{IsBlock, all_cons, block_inside}
 
@@ -32,11 +31,11 @@ plan_blocks plan size is lawful = blocks_pass size plan.blocks (subst (λ (n : �
 pub plan_below : (top : ℕ) (edits : List Edit) → are_at (λ n. nat_lt n top) edits ≡ true → All (λ edit. edit.0 < top) edits
 plan_below top edits below = λ k d lt. ltb-true _ _ (sectors_pass (λ n. nat_lt n top) edits below k d lt)
 
-pub plan_apart : (volume : Volume) (plan : Planned) → IsPlanFor volume plan
-    → All (λ edit. (edit.0 < (kept_span volume).start) ⊎ ((kept_span volume).start + volume.count ≤ edit.0)) plan.blocks
+pub plan_apart : (blocks : ℕ) (sealed : SealedRun) (plan : Planned) → IsLoggable blocks sealed plan
+    → All (λ edit. (edit.0 < sealed.first) ⊎ (sealed.first + sealed.count ≤ edit.0)) plan.blocks
 unfolding covers
-plan_apart volume plan is = λ k d lt.
-    let clear = not-true _ (sectors_pass (λ n. not (covers (sealed_stated volume) n)) plan.blocks is.unsealed k d lt) in
+plan_apart blocks sealed plan is = λ k d lt.
+    let clear = not-true _ (sectors_pass (λ n. not (covers (sealed_area sealed) n)) plan.blocks is.unsealed k d lt) in
     ⊎_elim (λ below. inl (leb-false _ _ below)) (λ above. inr (ltb-false _ _ above)) (and_cases _ _ clear)
 
 -- blocks below the block count of a file lie in it

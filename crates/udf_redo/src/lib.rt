@@ -2,7 +2,7 @@
 //! the image such that a stop at any moment leaves files that stand for the image as it was or for the image with the whole
 //! plan. Towards the layer above: `settled` names the image that two files stand for; `write_log`, `open_gate`, `apply` and
 //! `close_gate` in this order lead from an image to the image with the plan, and `replay` ends what was begun. It knows no
-//! rule of volumes. It stands on the bench, on plans, and on the fields of a volume that say what a log seals.
+//! rule of volumes. It stands on the bench and on plans.
 #![tactic(auto)]
 
 mod blocks;
@@ -23,6 +23,7 @@ pub use gate::{close_gate, open_gate};
 pub use head::LogHead;
 pub use laws::{applied_law, settled_law};
 pub use replaying::replay;
+pub use seal::SealedRun;
 pub use side::{SideState, side_state};
 pub use stop::{Clash, RedoStop};
 pub use written::write_log;

@@ -9,6 +9,14 @@ ghost use Rattle.udf_outside.specs.declared.bench.Role.TheVariants.{Image};
 use sha2::{Digest, Sha256};
 use udf_outside::{Bench, Failed, read_block};
 
+/// The sectors of an image that a log of it seals, by the first one and their number. No plan writes them, and by their digest a
+/// log knows its image again.
+#[derive(Clone, Copy, Debug, PartialEq, Eq)]
+pub struct SealedRun {
+    pub first: u32,
+    pub count: u32,
+}
+
 /// The digest of `count` blocks from the sector `first` on. `block` is lent and has the block size.
 pub fn digest_of<B: Bench>(
     bench: &mut B,

@@ -4,12 +4,9 @@ ghost use Rattle.udf_outside.specs.Files.{IsAttached, IsWritable, resized};
 ghost use Rattle.udf_outside.specs.Stops.{bytes_of, IsSettled, LeavesOnly};
 ghost use Rattle.udf_outside.specs.Reads.{OnlyReads, failed};
 ghost use Rattle.udf_outside.specs.declared.bench.Role.TheVariants.{Image, Side};
-ghost use Rattle.udf_blocks.specs.PlanFor.{IsPlanFor};
-ghost use Rattle.udf_volume.specs.Spans.{kept_span};
-ghost use Rattle.udf_model.specs.Size.{is_size};
 ghost use Rattle.udf_redo.specs.Log.{head_in, records_of, opened, state_of};
 ghost use Rattle.udf_redo.specs.Settled.{IsOpenLog, IsFree};
-ghost use Rattle.udf_redo.specs.Sealing.{head_for};
+ghost use Rattle.udf_redo.specs.Sealing.{head_for, IsLoggable};
 ghost use Rattle.udf_redo.specs.Runs.{IsLogging};
 ghost use Rattle.udf_redo.specs.Faults.{HasFault, OnlyFaultsOrMemory};
 ghost use Rattle.udf_redo.specs.declared.side.SideState.TheVariants.{Closed};
@@ -18,34 +15,31 @@ ghost use Rattle.udf_redo.specs.declared.stop.RedoStop.TheVariants.{Memory};
 use crate::body::write_body;
 use crate::front::make_front;
 use crate::seal::digest_of;
-use crate::{LogHead, RedoStop};
+use crate::{LogHead, RedoStop, SealedRun};
 use std::alloc::Global;
 use udf_blocks::Plan;
 use udf_outside::{Bench, Failed};
-use udf_volume::Volume;
 
-/// Writes the plan as a log of the image, behind a closed gate. The log seals the descriptors of the volume's kept sequence.
+/// Writes the plan as a log of the image, behind a closed gate. `blocks` is the number of whole blocks of the image, and the log
+/// seals a run of them.
 pub fn write_log<B: Bench>(
     alloc: Global,
     bench: &mut B,
     plan: &Plan,
-    volume: &Volume,
+    blocks: u32,
+    sealed: SealedRun,
 ) -> Result<(), RedoStop>
     requires image { IsAttached Image (B.files bench.old) }
     requires side { IsWritable Side (B.files bench.old) }
-    requires size { is_size volume.now.size ≡ true }
-    requires image_blocks { (B.files bench.old).image.size / volume.now.size ≡ volume.now.blocks }
-    requires sealed { 1 ≤ volume.now.count }
-    requires sealed_inside { (kept_span volume.now).start + volume.now.count ≤ volume.now.blocks }
-    requires some { 1 ≤ length plan.now.blocks }
-    requires plan { IsPlanFor volume.now plan.now }
+    requires plan { IsLoggable blocks sealed plan.now }
+    requires image_blocks { (B.files bench.old).image.size / plan.now.size ≡ blocks }
     requires free { B.tells → IsFree (bytes_of Side (B.held bench.old)) }
     requires settled { B.tells → IsSettled (B.held bench.old) }
     ensures moments { B.tells → LeavesOnly (B.held bench.old) (B.held bench.new) (IsLogging (bytes_of Image (B.held bench.old))) }
     ensures closed { B.tells → OnOk result (state_of (bytes_of Side (B.held bench.new)) ≡ Ok Closed) }
     ensures log { B.tells → OnOk result (IsOpenLog (opened (bytes_of Side (B.held bench.new))) (bytes_of Image (B.held bench.old))) }
     ensures head { B.tells → OnOk result (head_in (bytes_of Side (B.held bench.new))
-        ≡ head_for volume.now (bytes_of Image (B.held bench.old)) (length plan.now.blocks)) }
+        ≡ head_for plan.now blocks sealed (bytes_of Image (B.held bench.old))) }
     ensures records { B.tells → OnOk result (records_of (bytes_of Side (B.held bench.new)) ≡ plan.now.blocks) }
     ensures image { B.tells → bytes_of Image (B.held bench.new) ≡ bytes_of Image (B.held bench.old) }
     ensures settled { B.tells → OnOk result (IsSettled (B.held bench.new)) }
@@ -55,8 +49,8 @@ pub fn write_log<B: Bench>(
     ensures only_faults { OnlyFaultsOrMemory result }
     ensures cause { HasFault (B.faults bench.old) (B.faults bench.new) result }
 {
-    let mut block = vec![in alloc; 0u8; volume.size as usize]?;
-    let head = head_of(bench, plan, volume, &mut block)?;
+    let mut block = vec![in alloc; 0u8; plan.size() as usize]?;
+    let head = head_of(bench, plan, blocks, sealed, &mut block)?;
     make_front(bench)?;
     write_body(bench, &head, plan)?;
     Ok(())
@@ -65,25 +59,26 @@ pub fn write_log<B: Bench>(
 fn head_of<B: Bench>(
     bench: &mut B,
     plan: &Plan,
-    volume: &Volume,
+    blocks: u32,
+    sealed: SealedRun,
     block: &mut [u8],
 ) -> Result<LogHead, Failed>
     requires attached { IsAttached Image (B.files bench.old) }
-    requires within { ((kept_span volume.now).start + volume.now.count) * volume.now.size ≤ (B.files bench.old).image.size }
-    requires sealed_inside { (kept_span volume.now).start + volume.now.count ≤ volume.now.blocks }
-    requires room { length block.old ≡ volume.now.size }
-    ensures head { B.tells → IfOk result (λ head. head ≡ head_for volume.now (bytes_of Image (B.held bench.old)) (length plan.now.blocks)) }
-    ensures size { IfOk result (λ head. head.size ≡ volume.now.size) }
-    ensures numbers { IfOk result (λ _. (volume.now.blocks < 2 ^ 32) × (length plan.now.blocks < 2 ^ 32)) }
+    requires within { (sealed.first + sealed.count) * plan.now.size ≤ (B.files bench.old).image.size }
+    requires sealed_inside { sealed.first + sealed.count ≤ blocks }
+    requires room { length block.old ≡ plan.now.size }
+    ensures head { B.tells → IfOk result (λ head. head ≡ head_for plan.now blocks sealed (bytes_of Image (B.held bench.old))) }
+    ensures size { IfOk result (λ head. head.size ≡ plan.now.size) }
+    ensures numbers { IfOk result (λ _. (blocks < 2 ^ 32) × (length plan.now.blocks < 2 ^ 32)) }
     ensures reads { OnlyReads B.files B.held B.faults bench.old bench.new failed result }
 {
-    let (kept, blocks) = (volume.kept_extent(), volume.blocks);
-    let seal = digest_of(bench, volume.size, kept.start, volume.count, block)?;
+    let size = plan.size();
+    let seal = digest_of(bench, size, sealed.first, sealed.count, block)?;
     Ok(LogHead {
-        size: volume.size,
+        size,
         blocks,
-        first: kept.start,
-        sealed: volume.count,
+        first: sealed.first,
+        sealed: sealed.count,
         seal,
         records: plan.len(),
     })

@@ -10,8 +10,9 @@ ghost use Rattle.udf_volume_model.specs.Plans.{IsRewrite};
 ghost use Rattle.udf_volume.specs.Laid.{IsLaidOut};
 ghost use Rattle.udf_volume.specs.Opened.{IsBounded};
 ghost use Rattle.udf_volume.specs.Writable.{opened_writable};
-ghost use Rattle.udf_blocks.specs.PlanFor.{IsPlanFor};
+ghost use Rattle.udf_blocks.specs.PlanFor.{sealed_stated, IsPlanFor};
 ghost use Rattle.udf_model.specs.Size.{is_size};
+ghost use Rattle.udf_redo.specs.Sealing.{sealed_area};
 ghost use Rattle.udf_redo.specs.Settled.{IsFree};
 ghost use Rattle.udf_redo.specs.Faults.{HasFault, OnlyFaultsOrMemory};
 ghost use Rattle.udf_redo.specs.declared.stop.RedoStop.TheVariants.{Memory};
@@ -28,7 +29,7 @@ use crate::{Findings, Outcome};
 use std::alloc::Global;
 use udf_outside::{Bench, Sink};
 use udf_plan::{Plan, plan_volume};
-use udf_redo::{RedoStop, apply, close_gate, open_gate, write_log};
+use udf_redo::{RedoStop, SealedRun, apply, close_gate, open_gate, write_log};
 use udf_rules::check_volume;
 use udf_volume::{LayerStop, Volume, WorkStop, open_writable};
 
@@ -60,7 +61,17 @@ fn inspect<B: Bench>(
     Ok(Inspected { volume, findings })
 }
 
-// Writes a plan, which is not empty, through the log. Once the gate is open it takes no memory.
+// The blocks of the kept descriptors, which no mend writes.
+fn kept_descriptors(volume: &Volume) -> SealedRun
+    ensures { sealed_area result ≡ sealed_stated volume.now }
+{
+    SealedRun {
+        first: volume.kept_extent().start,
+        count: volume.count,
+    }
+}
+
+// Writes a plan, which is not empty, through the log, which seals the kept descriptors. Once the gate is open it takes no memory.
 fn write_plan<B: Bench>(
     alloc: Global,
     bench: &mut B,
@@ -86,7 +97,7 @@ fn write_plan<B: Bench>(
     ensures files { KeepsAsked (B.files bench.old) (B.files bench.new) }
     ensures cause { HasFault (B.faults bench.old) (B.faults bench.new) result }
 {
-    write_log(alloc, bench, plan, volume)?;
+    write_log(alloc, bench, plan, volume.blocks, kept_descriptors(volume))?;
     open_gate(bench)?;
     apply(bench, plan, volume.size)?;
     close_gate(bench)

@@ -23,11 +23,11 @@ returns-in_err-head-clause-moments g c tells =
     quiet_logging (g.B.Bench.held c.args.bench.now) _ c.head_of.ensures.reads.held (c.requires.settled tells) (c.requires.free tells)
 
 pub write_body-requires-clause-size : goal.write_body-requires-clause-size
-write_body-requires-clause-size g c = omega (arith, (size_cases c.args.volume.now.size c.requires.size).1, c.in_ok-head.ensures.size)
+write_body-requires-clause-size g c = omega (arith, (size_cases c.args.plan.now.size c.requires.plan.size).1, c.in_ok-head.ensures.size)
 
 pub write_body-requires-clause-blocks : goal.write_body-requires-clause-blocks
 write_body-requires-clause-blocks g c =
-    plan_blocks c.args.plan.now c.in_ok-head.head.size (c.requires.plan.size ∙ sym c.in_ok-head.ensures.size) c.requires.plan.lawful
+    plan_blocks c.args.plan.now c.in_ok-head.head.size (sym c.in_ok-head.ensures.size) c.requires.plan.lawful
 
 pub returns-in_err-write_body-clause-moments : goal.returns-in_err-write_body-clause-moments
 returns-in_err-write_body-clause-moments g c tells =
@@ -49,15 +49,15 @@ returns-clause-moments g c tells =
 
 pub returns-clause-closed : goal.returns-clause-closed
 returns-clause-closed g c tells =
-    let volume = c.args.volume.now in
-    let edits = c.args.plan.now.blocks in
+    let plan = c.args.plan.now in
+    let edits = plan.blocks in
     let image = bytes_of Image (g.B.Bench.held c.args.bench.now) in
-    let head = head_for volume image (length edits) in
+    let head = head_for plan c.args.blocks c.args.sealed image in
     let ranges = c.in_ok-head.ensures.numbers in
-    let blocks = plan_blocks c.args.plan.now volume.size c.requires.plan.size c.requires.plan.lawful in
-    let below = plan_below volume.blocks edits c.requires.plan.inside in
-    let fits : Fits head = fits_for volume image edits c.requires.size c.requires.sealed c.requires.sealed_inside ranges.0 c.requires.some ranges.1 in
-    let numbers = numbers_for volume image edits c.requires.size c.requires.sealed c.requires.sealed_inside ranges.0 c.requires.some ranges.1 below in
+    let blocks = plan_blocks plan plan.size refl c.requires.plan.lawful in
+    let below = plan_below c.args.blocks edits c.requires.plan.inside in
+    let fits : Fits head = fits_for plan c.args.blocks c.args.sealed image c.requires.plan ranges.0 ranges.1 in
+    let numbers = numbers_for plan c.args.blocks c.args.sealed image c.requires.plan ranges.0 ranges.1 below in
     let middle = bytes_of Side (g.B.Bench.held c.make_front.new.bench) in
     let new = bytes_of Side (g.B.Bench.held c.write_body.new.bench) in
     let same : c.in_ok-head.head ≡ head = c.in_ok-head.ensures.head tells in
@@ -68,15 +68,15 @@ returns-clause-closed g c tells =
 
 pub returns-clause-head : goal.returns-clause-head
 returns-clause-head g c tells =
-    let volume = c.args.volume.now in
-    let edits = c.args.plan.now.blocks in
+    let plan = c.args.plan.now in
+    let edits = plan.blocks in
     let image = bytes_of Image (g.B.Bench.held c.args.bench.now) in
-    let head = head_for volume image (length edits) in
+    let head = head_for plan c.args.blocks c.args.sealed image in
     let ranges = c.in_ok-head.ensures.numbers in
-    let blocks = plan_blocks c.args.plan.now volume.size c.requires.plan.size c.requires.plan.lawful in
-    let below = plan_below volume.blocks edits c.requires.plan.inside in
-    let fits : Fits head = fits_for volume image edits c.requires.size c.requires.sealed c.requires.sealed_inside ranges.0 c.requires.some ranges.1 in
-    let numbers = numbers_for volume image edits c.requires.size c.requires.sealed c.requires.sealed_inside ranges.0 c.requires.some ranges.1 below in
+    let blocks = plan_blocks plan plan.size refl c.requires.plan.lawful in
+    let below = plan_below c.args.blocks edits c.requires.plan.inside in
+    let fits : Fits head = fits_for plan c.args.blocks c.args.sealed image c.requires.plan ranges.0 ranges.1 in
+    let numbers = numbers_for plan c.args.blocks c.args.sealed image c.requires.plan ranges.0 ranges.1 below in
     let middle = bytes_of Side (g.B.Bench.held c.make_front.new.bench) in
     let new = bytes_of Side (g.B.Bench.held c.write_body.new.bench) in
     let same : c.in_ok-head.head ≡ head = c.in_ok-head.ensures.head tells in
@@ -87,15 +87,15 @@ returns-clause-head g c tells =
 
 pub returns-clause-records : goal.returns-clause-records
 returns-clause-records g c tells =
-    let volume = c.args.volume.now in
-    let edits = c.args.plan.now.blocks in
+    let plan = c.args.plan.now in
+    let edits = plan.blocks in
     let image = bytes_of Image (g.B.Bench.held c.args.bench.now) in
-    let head = head_for volume image (length edits) in
+    let head = head_for plan c.args.blocks c.args.sealed image in
     let ranges = c.in_ok-head.ensures.numbers in
-    let blocks = plan_blocks c.args.plan.now volume.size c.requires.plan.size c.requires.plan.lawful in
-    let below = plan_below volume.blocks edits c.requires.plan.inside in
-    let fits : Fits head = fits_for volume image edits c.requires.size c.requires.sealed c.requires.sealed_inside ranges.0 c.requires.some ranges.1 in
-    let numbers = numbers_for volume image edits c.requires.size c.requires.sealed c.requires.sealed_inside ranges.0 c.requires.some ranges.1 below in
+    let blocks = plan_blocks plan plan.size refl c.requires.plan.lawful in
+    let below = plan_below c.args.blocks edits c.requires.plan.inside in
+    let fits : Fits head = fits_for plan c.args.blocks c.args.sealed image c.requires.plan ranges.0 ranges.1 in
+    let numbers = numbers_for plan c.args.blocks c.args.sealed image c.requires.plan ranges.0 ranges.1 below in
     let middle = bytes_of Side (g.B.Bench.held c.make_front.new.bench) in
     let new = bytes_of Side (g.B.Bench.held c.write_body.new.bench) in
     let same : c.in_ok-head.head ≡ head = c.in_ok-head.ensures.head tells in
@@ -106,23 +106,23 @@ returns-clause-records g c tells =
 
 pub returns-clause-log : goal.returns-clause-log
 returns-clause-log g c tells =
-    let volume = c.args.volume.now in
-    let edits = c.args.plan.now.blocks in
+    let plan = c.args.plan.now in
+    let edits = plan.blocks in
     let image = bytes_of Image (g.B.Bench.held c.args.bench.now) in
-    let head = head_for volume image (length edits) in
+    let head = head_for plan c.args.blocks c.args.sealed image in
     let ranges = c.in_ok-head.ensures.numbers in
-    let blocks = plan_blocks c.args.plan.now volume.size c.requires.plan.size c.requires.plan.lawful in
-    let below = plan_below volume.blocks edits c.requires.plan.inside in
-    let fits : Fits head = fits_for volume image edits c.requires.size c.requires.sealed c.requires.sealed_inside ranges.0 c.requires.some ranges.1 in
-    let numbers = numbers_for volume image edits c.requires.size c.requires.sealed c.requires.sealed_inside ranges.0 c.requires.some ranges.1 below in
+    let blocks = plan_blocks plan plan.size refl c.requires.plan.lawful in
+    let below = plan_below c.args.blocks edits c.requires.plan.inside in
+    let fits : Fits head = fits_for plan c.args.blocks c.args.sealed image c.requires.plan ranges.0 ranges.1 in
+    let numbers = numbers_for plan c.args.blocks c.args.sealed image c.requires.plan ranges.0 ranges.1 below in
     let middle = bytes_of Side (g.B.Bench.held c.make_front.new.bench) in
     let new = bytes_of Side (g.B.Bench.held c.write_body.new.bench) in
     let same : c.in_ok-head.head ≡ head = c.in_ok-head.ensures.head tells in
     let is : new ≡ put middle 9 (head_bytes head ++ flat_map record_bytes edits) =
     c.in_ok-write_body.ensures.side tells ∙ ap (λ (h : LogHead). put middle 9 (head_bytes h ++ flat_map record_bytes edits)) same in
     let shut : IsShut middle = c.in_ok-make_front.ensures.shut tells in
-    let lawful = head_for_lawful volume image edits c.requires.size c.requires.sealed c.requires.sealed_inside ranges.0 c.requires.some ranges.1 in
-    let count : length image / volume.size ≡ volume.blocks = ap (λ (n : ℕ). n / volume.size) (sym (g.met.B.Bench.sizes c.args.bench.now Image tells c.requires.image)) ∙ c.requires.image_blocks in
-    let of = of_for volume image edits c.requires.size c.requires.sealed c.requires.sealed_inside ranges.0 c.requires.some ranges.1 count in
-    let sectors = lawful_from head 0 edits c.requires.plan.lawful.ascends below (plan_apart volume c.args.plan.now c.requires.plan) in
+    let lawful = head_for_lawful plan c.args.blocks c.args.sealed image c.requires.plan ranges.0 ranges.1 in
+    let count : length image / plan.size ≡ c.args.blocks = ap (λ (n : ℕ). n / plan.size) (sym (g.met.B.Bench.sizes c.args.bench.now Image tells c.requires.image)) ∙ c.requires.image_blocks in
+    let of = of_for plan c.args.blocks c.args.sealed image c.requires.plan ranges.0 ranges.1 count in
+    let sectors = lawful_from head 0 edits c.requires.plan.lawful.ascends below (plan_apart c.args.blocks c.args.sealed plan c.requires.plan) in
     open_new head edits fits refl blocks numbers middle new shut is image lawful sectors of

@@ -1,4 +1,7 @@
-use Rattle.std.proofs.Common.{arith, sym, ◌∙◌, ap, subst, List}
+use Rattle.std.proofs.Common.{◌≡◌, arith, sym, ◌∙◌, ap, subst, ℕ, List, true, not}
+use Rattle.udf_model.specs.Size.{is_size}
+use Rattle.udf_volume_model.specs.Areas.{Area, covers}
+use Rattle.udf_blocks.specs.Planned.{are_at}
 use Rattle.udf_outside.specs.Stops.{bytes_of}
 use Rattle.udf_outside.specs.declared.bench.Role.TheVariants.{Image, Side}
 use Rattle.udf_volume_model.specs.Plans.{ClimbsFrom}
@@ -10,6 +13,21 @@ use Rattle.udf_redo.specs.Runs.{IsLogging}
 use Rattle.udf_top.specs.Steps.{IsMending}
 use Rattle.udf_top.proofs.Stepping.{logging, IsWritten, until_open, until_put, until_closed, open_applied, done_on}
 use Rattle.udf_top.proofs.udffsck.mend.write_plan.Goals as goal
+
+pub write_log-requires-clause-plan : goal.write_log-requires-clause-plan
+write_log-requires-clause-plan g c =
+    let plan = c.args.plan.now in
+    let same = c.kept_descriptors.ensures in
+    let count = ap (λ (area : Area). area.count) same in
+    let start = ap (λ (area : Area). area.start) same in record {
+      size = subst (λ (n : ℕ). is_size n ≡ true) (sym c.requires.lawful.size) c.requires.size;
+      lawful = c.requires.lawful.lawful;
+      some = c.requires.some;
+      inside = c.requires.lawful.inside;
+      unsealed = subst (λ (area : Area). are_at (λ n. not (covers area n)) plan.blocks ≡ true) (sym same) c.requires.lawful.unsealed;
+      some_sealed = omega (arith, count, c.requires.bounded.some);
+      sealed_inside = omega (arith, count, start, c.requires.bounded.descriptors_inside, c.requires.bounded.counted);
+    }
 
 pub returns-in_err-write_log-clause-moments : goal.returns-in_err-write_log-clause-moments
 returns-in_err-write_log-clause-moments g c tells after rewrites is_plan =
@@ -26,7 +44,7 @@ returns-in_err-open_gate-clause-moments g c tells after rewrites is_plan =
       some = omega (arith, (size_cases c.args.volume.now.size c.requires.size).0);
       rewrites = rewrites;
       log = c.in_ok-write_log.ensures.log tells;
-      size_is = ap (λ (h : LogHead). h.size) (c.in_ok-write_log.ensures.head tells);
+      size_is = ap (λ (h : LogHead). h.size) (c.in_ok-write_log.ensures.head tells) ∙ c.requires.lawful.size;
       records = records ∙ is_plan;
       up = subst (λ (edits : List Edit). ClimbsFrom 0 edits) (sym records) c.requires.lawful.lawful.ascends;
     } in
@@ -42,7 +60,7 @@ returns-in_err-apply-clause-moments g c tells after rewrites is_plan =
       some = omega (arith, (size_cases c.args.volume.now.size c.requires.size).0);
       rewrites = rewrites;
       log = c.in_ok-write_log.ensures.log tells;
-      size_is = ap (λ (h : LogHead). h.size) (c.in_ok-write_log.ensures.head tells);
+      size_is = ap (λ (h : LogHead). h.size) (c.in_ok-write_log.ensures.head tells) ∙ c.requires.lawful.size;
       records = records ∙ is_plan;
       up = subst (λ (edits : List Edit). ClimbsFrom 0 edits) (sym records) c.requires.lawful.lawful.ascends;
     } in
@@ -59,7 +77,7 @@ returns-clause-moments g c tells after rewrites is_plan =
       some = omega (arith, (size_cases c.args.volume.now.size c.requires.size).0);
       rewrites = rewrites;
       log = c.in_ok-write_log.ensures.log tells;
-      size_is = ap (λ (h : LogHead). h.size) (c.in_ok-write_log.ensures.head tells);
+      size_is = ap (λ (h : LogHead). h.size) (c.in_ok-write_log.ensures.head tells) ∙ c.requires.lawful.size;
       records = records ∙ is_plan;
       up = subst (λ (edits : List Edit). ClimbsFrom 0 edits) (sym records) c.requires.lawful.lawful.ascends;
     } in
@@ -76,7 +94,7 @@ returns-clause-done g c tells after rewrites is_plan =
       some = omega (arith, (size_cases c.args.volume.now.size c.requires.size).0);
       rewrites = rewrites;
       log = c.in_ok-write_log.ensures.log tells;
-      size_is = ap (λ (h : LogHead). h.size) (c.in_ok-write_log.ensures.head tells);
+      size_is = ap (λ (h : LogHead). h.size) (c.in_ok-write_log.ensures.head tells) ∙ c.requires.lawful.size;
       records = records ∙ is_plan;
       up = subst (λ (edits : List Edit). ClimbsFrom 0 edits) (sym records) c.requires.lawful.lawful.ascends;
     } in
