@@ -3,7 +3,7 @@ use Rattle.std.proofs.Common.{◌≡◌, ℕ, suc, ◌+◌, ◌-◌, ◌<◌, Bo
 use Rattle.std.proofs.lemmas.List.{take_more, take_all, set_split, drop_all}
 use Rattle.udf_outside.specs.Stops.{is_within}
 use Rattle.udf_outside.specs.Ranges.{covers}
-use Rattle.udf_outside.specs.declared.range.Range.{Range}
+use Rattle.udf_outside.specs.declared.memory.range.Range.{Range}
 
 or_false : (b : Bool) → b || false ≡ b
 or_false true = refl

@@ -3,8 +3,8 @@ use Rattle.std.proofs.Common.{◌≡◌, ◌⊎◌, inl, inr, ℕ, ◌+◌, ◌�
 use Rattle.std.proofs.lemmas.List.{same_lists, places, length-take-le, take_all}
 use Rattle.udf_outside.specs.declared.bench.Role.{Role}
 use Rattle.udf_outside.specs.declared.bench.Role.TheVariants.{Image, Side}
-use Rattle.udf_outside.specs.declared.script.Turn.{Turn}
-use Rattle.udf_outside.specs.declared.script.Turn.TheVariants.{Works, Fails, Stops, Over}
+use Rattle.udf_outside.specs.declared.memory.script.Turn.{Turn}
+use Rattle.udf_outside.specs.declared.memory.script.Turn.TheVariants.{Works, Fails, Stops, Over}
 use Rattle.udf_outside.specs.Files.{Files, file_of, resized, Resizes}
 use Rattle.udf_outside.specs.Stops.{Held, bytes_of, put, Torn, moved_on, after_write, Writes}
 use Rattle.udf_outside.specs.Memory.{left_by}

@@ -4,8 +4,8 @@ use mathlib.Core.Path.{fun_ext}
 use Rattle.std.proofs.lemmas.List.{reverse-append}
 use Rattle.udf_outside.specs.declared.bench.Role.{Role}
 use Rattle.udf_outside.specs.declared.bench.Role.TheVariants.{Image, Side}
-use Rattle.udf_outside.specs.declared.change.Change.{Change}
-use Rattle.udf_outside.specs.declared.change.Undo.{Undo}
+use Rattle.udf_outside.specs.declared.memory.change.Change.{Change}
+use Rattle.udf_outside.specs.declared.memory.change.Undo.{Undo}
 use Rattle.udf_outside.specs.Files.{other}
 use Rattle.udf_outside.specs.Stops.{Content, Disk, Held, bytes_of, is_within, moved_on, after_write, after_sync}
 use Rattle.udf_outside.specs.Ranges.{covers}

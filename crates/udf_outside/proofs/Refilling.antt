@@ -3,7 +3,7 @@ use Rattle.std.proofs.Common.{◌≡◌, ◌⊎◌, inl, inr, ⊎_elim, ◌<◌,
 use Rattle.std.proofs.lemmas.List.{places, get_or_past}
 use Rattle.std.proofs.lemmas.Bool.{cases_lt}
 use Rattle.std.specs.Option.{unwrap_or}
-use Rattle.udf_outside.specs.declared.range.Range.{Range}
+use Rattle.udf_outside.specs.declared.memory.range.Range.{Range}
 use Rattle.udf_outside.specs.Stops.{is_within, slice_of, put}
 use Rattle.udf_outside.specs.Ranges.{covers}
 use Rattle.udf_outside.specs.Refill.{Refills, is_spared}

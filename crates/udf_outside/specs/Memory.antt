@@ -1,9 +1,9 @@
 -- A bench in memory: what was asked of its files, what they hold and held, and its script.
 use Rattle.std.specs.Prelude.{◌≡◌, ◌⊎◌, ℕ, min, false, List, [], length, take, Option, Some, None, option_map, string_bytes}
 use Rattle.udf_outside.specs.declared.bench.Role.{Role}
-use Rattle.udf_outside.specs.declared.script.Turn.{Turn}
-use Rattle.udf_outside.specs.declared.script.Turn.TheVariants.{Works, Fails, Stops, Over}
-use Rattle.udf_outside.specs.declared.script.Spared.{Spared}
+use Rattle.udf_outside.specs.declared.memory.script.Turn.{Turn}
+use Rattle.udf_outside.specs.declared.memory.script.Turn.TheVariants.{Works, Fails, Stops, Over}
+use Rattle.udf_outside.specs.declared.memory.script.Spared.{Spared}
 use Rattle.udf_outside.specs.declared.memory.MemSlot.{MemSlot}
 use Rattle.udf_outside.specs.declared.memory.MemBench.{MemBench}
 use Rattle.udf_outside.specs.Files.{File, Files}

@@ -2,8 +2,8 @@
 use Rattle.std.specs.Prelude.{◌≡◌, ℕ, ◌<◌, Bool, true, false, List, length, slice_index, Option, Some, None}
 use Rattle.udf_outside.specs.declared.bench.Role.{Role}
 use Rattle.udf_outside.specs.declared.bench.Role.TheVariants.{Image, Side}
-use Rattle.udf_outside.specs.declared.range.Range.{Range}
-use Rattle.udf_outside.specs.declared.script.Spared.{Spared}
+use Rattle.udf_outside.specs.declared.memory.range.Range.{Range}
+use Rattle.udf_outside.specs.declared.memory.script.Spared.{Spared}
 use Rattle.udf_outside.specs.Stops.{is_within}
 
 abbrev pub range_of : Role → Role → Range → Option Range

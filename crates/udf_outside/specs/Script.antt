@@ -2,10 +2,10 @@
 use Rattle.std.specs.Prelude.{◌≡◌, ◌≢◌, ◌⊎◌, ℕ, Bool, true, false, ◌||◌, ◌==◌, min, Option, Some, None, List, Contains, IsTrue, Result, OnOk, OnErr}
 use Rattle.udf_outside.specs.declared.bench.Role.{Role}
 use Rattle.udf_outside.specs.declared.bench.Role.TheVariants.{Image, Side}
-use Rattle.udf_outside.specs.declared.script.Stop.{Stop}
-use Rattle.udf_outside.specs.declared.script.Turn.{Turn}
-use Rattle.udf_outside.specs.declared.script.Turn.TheVariants.{Works, Fails, Stops, Over}
-use Rattle.udf_outside.specs.declared.script.Spared.{Spared}
+use Rattle.udf_outside.specs.declared.memory.script.Stop.{Stop}
+use Rattle.udf_outside.specs.declared.memory.script.Turn.{Turn}
+use Rattle.udf_outside.specs.declared.memory.script.Turn.TheVariants.{Works, Fails, Stops, Over}
+use Rattle.udf_outside.specs.declared.memory.script.Spared.{Spared}
 use Rattle.udf_outside.specs.Numbered.{next_number}
 
 -- the number of calls so far, those that are to fail, the stop, whether it came, how many calls failed, how many found no

@@ -2,14 +2,14 @@
 use Rattle.std.specs.Prelude.{ℕ, ◌-◌, List, [], ◌∷◌, ◌++◌, length, take, replicate, reverse, option_to_list}
 use Rattle.udf_outside.specs.Stops.{Content, Disk, Held, put}
 use Rattle.udf_outside.specs.Ranges.{covers}
-use Rattle.udf_outside.specs.declared.range.Range.{Range}
+use Rattle.udf_outside.specs.declared.memory.range.Range.{Range}
 use Rattle.udf_outside.specs.declared.bench.Role.{Role}
 use Rattle.udf_outside.specs.declared.bench.Role.TheVariants.{Image, Side}
-use Rattle.udf_outside.specs.declared.part.Part.{Part}
-use Rattle.udf_outside.specs.declared.part.Part.TheVariants.{Zeros, Bytes}
-use Rattle.udf_outside.specs.declared.change.Undo.{Undo}
-use Rattle.udf_outside.specs.declared.change.Undo.TheVariants.{Write, Sync}
-use Rattle.udf_outside.specs.declared.change.Change.{Change}
+use Rattle.udf_outside.specs.declared.memory.part.Part.{Part}
+use Rattle.udf_outside.specs.declared.memory.part.Part.TheVariants.{Zeros, Bytes}
+use Rattle.udf_outside.specs.declared.memory.change.Undo.{Undo}
+use Rattle.udf_outside.specs.declared.memory.change.Undo.TheVariants.{Write, Sync}
+use Rattle.udf_outside.specs.declared.memory.change.Change.{Change}
 use Rattle.udf_outside.specs.Tracked.{Tracked}
 
 -- the bytes of a part of a file: zeros alone are held by their number

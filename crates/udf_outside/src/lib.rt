@@ -6,31 +6,18 @@
 #![tactic(auto)]
 
 mod bench;
-mod block;
-mod blocks;
-mod change;
 mod file_bench;
 mod laws;
 mod memory;
-mod memory_bench;
-mod memory_file;
-mod memory_sink;
-mod part;
-mod range;
 mod real_file;
-mod restart;
-mod script;
 mod sink;
-mod sparse;
 mod standard_sink;
 mod standard_streams;
 
 pub use bench::{Access, Bench, Failed, Role, read_block};
 pub use file_bench::FileBench;
 pub use laws::{moments_law, run_law, sync_law, write_law};
-pub use memory::MemBench;
-pub use memory_sink::MemSink;
-pub use script::Stop;
+pub use memory::{MemBench, MemSink, Stop};
 pub use sink::Sink;
 pub use standard_sink::StdSink;
 pub use standard_streams::hold_standard_streams;

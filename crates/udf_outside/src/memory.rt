@@ -10,13 +10,28 @@ ghost use Rattle.udf_outside.specs.Memory.{files_in, held_in, script_in, tracked
 ghost use Rattle.udf_outside.specs.Script.{not_begun, writes_of};
 ghost use Rattle.udf_outside.specs.declared.bench.Role.TheVariants.{Image, Side};
 
-use crate::change::{Change, Undo};
-use crate::memory_file::MemFile;
-use crate::range::Range;
-use crate::script::{Script, Stop, Turn};
-use crate::sparse::Sparse;
 use crate::{Access, Role};
+use change::{Change, Undo};
+use file::MemFile;
+use range::Range;
+use script::{Script, Turn};
+use sparse::Sparse;
 use std::alloc::{AllocError, Global};
+
+mod bench;
+mod block;
+mod blocks;
+pub(crate) mod change;
+mod file;
+pub(crate) mod part;
+pub(crate) mod range;
+mod restart;
+pub(crate) mod script;
+mod sink;
+mod sparse;
+
+pub use script::Stop;
+pub use sink::MemSink;
 
 /// A file of a bench in memory, and what was asked of it.
 #[derive(Drop)]

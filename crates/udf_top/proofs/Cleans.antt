@@ -73,7 +73,7 @@ module _ (size : ℕ) (image : List ℕ) where
 
 -- at the block size that is given or found
 module _ (given : Option ℕ) (image : List ℕ) where
-  IsCleanAt : ℕ → Type 0
+  abbrev pub IsCleanAt : ℕ → Type 0
   IsCleanAt size = (is_ok (opened size image) ≡ true) × (is_unbroken size image ≡ true)
 
   pub clean_check : check_of given image ≡ outcome.Clean → (size : ℕ) × ((size_of given image ≡ Some size) × IsCleanAt size)
@@ -86,7 +86,7 @@ module _ (given : Option ℕ) (image : List ℕ) where
       → check_of given image ≡ outcome.Clean
   check_clean size e ok unbroken = ap (λ (f : Option ℕ). check_sized f image) e ∙ at_clean size image ok unbroken
 
-  IsRepairClean : ℕ → Type 0
+  abbrev IsRepairClean : ℕ → Type 0
   IsRepairClean replayed = (replayed ≡ 0) × ((is_accepted_as given image ≡ true) × (is_unbroken_as given image ≡ true))
 
   clean_sized : (replayed : ℕ) → mend_sized (size_of given image) replayed image ≡ outcome.Clean → IsRepairClean replayed

@@ -6,7 +6,7 @@ pub returns-clause-check : goal.returns-clause-check
 returns-clause-check c = clean_check
 
 pub returns-clause-checked : goal.returns-clause-checked
-returns-clause-checked c = check_clean
+returns-clause-checked c = λ given size image. check_clean given image size
 
 pub returns-clause-repair : goal.returns-clause-repair
 returns-clause-repair c = clean_repair

@@ -1,6 +1,6 @@
 use Rattle.std.proofs.Common.{◌∙◌, ap, sym, ℕ, List, [], ◌∷◌, ◌++◌, Vec, take}
 use Rattle.std.specs.declared.alloc.Global.{Global}
-use Rattle.udf_outside.specs.declared.change.Change.{Change}
+use Rattle.udf_outside.specs.declared.memory.change.Change.{Change}
 use Rattle.udf_outside.specs.Stops.{put}
 use Rattle.udf_outside.specs.Memory.{held_in}
 use Rattle.udf_outside.proofs.History.{held_wrote, bytes_are}

@@ -1,5 +1,0 @@
-use Rattle.udf_outside.proofs.Sparsely.{clones}
-use Rattle.udf_outside.proofs.blocks.again.Goals as goal
-
-pub returns : goal.returns
-returns c = clones _ c.clone.result c.args.blocks.now c.clone.ensures.cases

@@ -1,0 +1,13 @@
+use Rattle.std.proofs.Common.{◌≡◌, ℕ, ◌+◌, ◌-◌, ◌/◌, ◌<◌, ◌≤◌, IsSome}
+use Rattle.udf_outside.specs.Blocks.{kept, byte_in}
+use Rattle.udf_outside.proofs.memory.blocks.prepare.Given as goal
+
+abbrev pub invariant-loop-done : goal.invariant-loop-done
+invariant-loop-done l = record {
+  within : l.done ≤ l.n;
+  same : (i : ℕ) → byte_in l.blocks i ≡ byte_in l.initial.blocks i;
+  there : (k : ℕ) → k < l.done → IsSome (kept l.blocks ((l.at + k) / 4096));
+}
+
+abbrev pub decreases-loop-done : goal.decreases-loop-done
+decreases-loop-done l = l.n - l.done

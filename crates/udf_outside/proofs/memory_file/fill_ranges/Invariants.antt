@@ -1,7 +1,0 @@
-use Rattle.std.proofs.Common.{false, take}
-use Rattle.udf_outside.specs.Ranges.{covers}
-use Rattle.udf_outside.specs.Refill.{Refills}
-use Rattle.udf_outside.proofs.memory_file.fill_ranges.Given as goal
-
-abbrev pub invariant-loop-range : goal.invariant-loop-range
-invariant-loop-range l = Refills l.fill (covers (take l.range-index l.ranges)) (λ i. false) l.initial.left l.left
