@@ -1,4 +1,4 @@
-use Rattle.std.proofs.Common.{◌≡◌, ◌++◌, ◌/◌, ℕ, length, arith, refl, sym, ◌∙◌, ap, subst}
+use Rattle.std.proofs.Common.{◌≡◌, ◌+◌, ◌++◌, ◌/◌, ℕ, length, arith, refl, sym, ◌∙◌, ap, subst}
 use Rattle.std.specs.List.{flat_map}
 use Rattle.udf_outside.specs.Stops.{Held, bytes_of, put, LeavesOnly}
 use Rattle.udf_outside.specs.declared.bench.Role.TheVariants.{Image, Side}
@@ -9,7 +9,7 @@ use Rattle.udf_redo.specs.Front.{IsShut}
 use Rattle.udf_redo.specs.Runs.{IsLogging}
 use Rattle.udf_redo.proofs.Logging.{quiet_logging, then_logging}
 use Rattle.udf_redo.proofs.Reading.{Fits, lawful_from}
-use Rattle.udf_redo.proofs.Logged.{head_new, records_new, closed_new, open_new, fits_for, head_for_lawful, of_for, numbers_for, size_cases}
+use Rattle.udf_redo.proofs.Logged.{head_new, records_new, closed_new, open_new, fits_for, head_for_lawful, of_for, numbers_for, size_cases, blocks_inside}
 use Rattle.udf_redo.proofs.Planning.{plan_blocks, plan_below, plan_apart}
 use Rattle.udf_redo.proofs.written.write_log.Goals as goal
 
@@ -21,6 +21,10 @@ returns-in_err-block-clause-moments g c tells =
 pub returns-in_err-head-clause-moments : goal.returns-in_err-head-clause-moments
 returns-in_err-head-clause-moments g c tells =
     quiet_logging (g.B.Bench.held c.args.bench.now) _ c.head_of.ensures.reads.held (c.requires.settled tells) (c.requires.free tells)
+
+pub head_of-requires-clause-within : goal.head_of-requires-clause-within
+head_of-requires-clause-within g c =
+    blocks_inside _ c.args.plan.now.size c.args.blocks (c.args.sealed.first + c.args.sealed.count) c.requires.image_blocks c.requires.plan.sealed_inside
 
 pub write_body-requires-clause-size : goal.write_body-requires-clause-size
 write_body-requires-clause-size g c = omega (arith, (size_cases c.args.plan.now.size c.requires.plan.size).1, c.in_ok-head.ensures.size)
