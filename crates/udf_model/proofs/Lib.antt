@@ -5,3 +5,4 @@ pub mod Whole
 pub mod Written
 pub mod Relocated
 pub mod Retagged
+pub mod Sizes

@@ -10,6 +10,9 @@ ghost use Rattle.byteorder.specs.Endian.{little_bytes};
 ghost use Rattle.udf_model.specs.Crc.{IsCrc, crc_of};
 ghost use Rattle.udf_model.specs.Tag.{IsWhole, crc_length, id_at, identifier, is_whole, location, relocated, retagged};
 
+/// The block sizes of the profile in bytes, ascending.
+pub const BLOCK_SIZES: [u32; 4] = [512, 1024, 2048, 4096];
+
 /// Whether a number is a block size of the profile: 512, 1024, 2048 or 4096 bytes.
 #[tactic(auto, unfolding(crate::specs::Size::is_size))]
 pub fn is_block_size(size: u32) -> bool

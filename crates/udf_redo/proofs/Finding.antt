@@ -15,7 +15,7 @@ use Rattle.udf_redo.specs.declared.side.SideState.TheVariants.{Open}
 use Rattle.udf_redo.specs.declared.stop.RedoStop.TheVariants.{BadLog}
 use Rattle.udf_model.specs.Size.{is_size}
 use Rattle.udf_redo.specs.Log.{name, gate, head_in, records_in, records_of, is_head, may_stand, are_lawful, log_length, is_log, open_answer}
-use Rattle.udf_redo.proofs.Logged.{size_cases}
+use Rattle.udf_model.proofs.Sizes.{size_cases}
 use Rattle.udf_redo.proofs.Lawful.{record_at}
 use Rattle.udf_redo.proofs.Reading.{same_fields}
 use Rattle.udf_redo.proofs.States.{bad_answer, lawful_answer}

@@ -11,7 +11,7 @@ use Rattle.udf_blocks.specs.Planned.{Planned}
 use Rattle.udf_redo.specs.declared.seal.SealedRun.{SealedRun}
 use Rattle.udf_redo.specs.declared.head.LogHead.{LogHead}
 use Rattle.udf_redo.specs.declared.side.SideState.TheVariants.{Closed}
-use Rattle.udf_model.specs.Size.{is_size}
+use Rattle.udf_model.proofs.Sizes.{size_cases}
 use Rattle.udf_redo.specs.Log.{gate, head_in, records_of, is_head, are_lawful, is_log_of, sealed_in, state_of, head_bytes, record_bytes, opened}
 use Rattle.udf_redo.specs.Settled.{IsOpenLog}
 use Rattle.udf_redo.specs.Sealing.{head_for, IsLoggable}
@@ -54,17 +54,6 @@ module _ (head : LogHead) (edits : List Edit) (fits : Fits head) (count : head.r
 length_digest : (bytes : List ℕ) → length (sha256 bytes) ≡ 32
 unfolding sha256 digest_bytes
 length_digest bytes = refl
-
--- one of the four sizes
-pub size_cases : (size : ℕ) → is_size size ≡ true → (512 ≤ size) × (size ≤ 4096)
-unfolding is_size
-size_cases size test =
-    ⊎_elim (λ e. let is = eqb-true size 512 e in (omega arith, omega arith))
-    (λ rest. ⊎_elim (λ e. let is = eqb-true size 1024 e in (omega arith, omega arith))
-    (λ rest'. ⊎_elim (λ e. let is = eqb-true size 2048 e in (omega arith, omega arith)) (λ e. let is = eqb-true size 4096 e in (omega arith, omega arith))
-    (or_cases (size == 2048) (size == 4096) rest'))
-    (or_cases (size == 1024) ((size == 2048) || (size == 4096)) rest))
-    (or_cases (size == 512) ((size == 1024) || ((size == 2048) || (size == 4096))) test)
 
 module _ (plan : Planned) (blocks : ℕ) (sealed : SealedRun) (image : List ℕ) (is : IsLoggable blocks sealed plan)
     (range : blocks < 2 ^ 32) (few : length plan.blocks < 2 ^ 32) where

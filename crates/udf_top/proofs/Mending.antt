@@ -26,7 +26,6 @@ use Rattle.udf_volume.proofs.Described.{opened_ok}
 use Rattle.udf_repair_model.proofs.Repair.{accepted_is}
 use Rattle.udf_model.specs.Size.{is_size}
 use Rattle.udf_redo.specs.Settled.{IsFree}
-use Rattle.udf_redo.proofs.Logged.{size_cases}
 use Rattle.udf_rules.specs.declared.finding.Finding.{Finding}
 use Rattle.udf_top.specs.declared.outcome.Outcome.{Outcome}
 use Rattle.udf_top.specs.declared.outcome.Outcome.TheVariants as outcome
@@ -37,9 +36,6 @@ use Rattle.udf_top.specs.Endings.{Ending, Mended, Told, DeviceFailed, Failed, en
 use Rattle.udf_top.specs.Steps.{IsMending, IsMended, Mends}
 use Rattle.udf_top.proofs.Settling.{settled_free}
 use Rattle.udf_top.proofs.Stepping.{resting}
-
-pub large : (size : ℕ) → is_size size ≡ true → 512 ≤ size
-large size is = (size_cases size is).0
 
 -- a volume that may be written is one that is opened
 by_protected : (volume wanted : Volume) (b : Bool) → cond b (Err WriteProtected) (Ok volume) ≡ Ok wanted → volume ≡ wanted

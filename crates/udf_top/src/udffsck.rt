@@ -73,7 +73,7 @@ fn repair_beside<B: Bench, O: Sink>(
 
 /// Checks an image, `udffsck -c -B SIZE MEDIUM`, or repairs it under the log in a side file,
 /// `udffsck -p -B SIZE [--redo FILE] MEDIUM`. `words` are those after the program's name. Every line goes to the sink.
-#[tactic(auto, using(crate::proofs::Mending::large))]
+#[tactic(auto, using(udf_model::proofs::Sizes::large))]
 pub fn run_udffsck<B: Bench, O: Sink>(
     alloc: Global,
     words: &[String],

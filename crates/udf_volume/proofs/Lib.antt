@@ -16,3 +16,4 @@ pub mod Laying
 pub mod LaidOut
 pub mod Protected
 pub mod Parted
+mod Sized

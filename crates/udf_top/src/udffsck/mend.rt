@@ -155,7 +155,7 @@ fn write<B: Bench>(
 }
 
 // Tells what is found, and writes the difference.
-#[tactic(auto, using(crate::proofs::Mending::large))]
+#[tactic(auto, using(udf_model::proofs::Sizes::large))]
 fn mend_broken<B: Bench, O: Sink>(
     alloc: Global,
     medium: &str,
@@ -213,7 +213,7 @@ fn end_unbroken<O: Sink>(alloc: Global, medium: &str, replayed: u32, out: &mut O
 }
 
 /// Repairs a settled image, after a replay of so many blocks. `length` is the image's in bytes.
-#[tactic(auto, using(crate::proofs::Mending::large))]
+#[tactic(auto, using(udf_model::proofs::Sizes::large))]
 pub(crate) fn mend<B: Bench, O: Sink>(
     alloc: Global,
     size: u32,

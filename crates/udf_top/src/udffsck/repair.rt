@@ -39,7 +39,7 @@ fn end_unsettled<O: Sink>(alloc: Global, side: &str, stop: RedoStop, out: &mut O
 }
 
 /// Repairs an image under the log in a side file, which has another name.
-#[tactic(auto, using(crate::proofs::Mending::large))]
+#[tactic(auto, using(udf_model::proofs::Sizes::large))]
 pub(crate) fn repair<B: Bench, O: Sink>(
     alloc: Global,
     size: u32,

@@ -1,5 +1,6 @@
 use Rattle.std.proofs.Common.{◌≡◌, ◌+◌, ◌++◌, ◌/◌, ℕ, length, arith, refl, sym, ◌∙◌, ap, subst}
 use Rattle.std.specs.List.{flat_map}
+use Rattle.udf_model.proofs.Sizes.{size_cases}
 use Rattle.udf_outside.specs.Stops.{Held, bytes_of, put, LeavesOnly}
 use Rattle.udf_outside.specs.declared.bench.Role.TheVariants.{Image, Side}
 use Rattle.udf_redo.specs.declared.head.LogHead.{LogHead}
@@ -9,7 +10,7 @@ use Rattle.udf_redo.specs.Front.{IsShut}
 use Rattle.udf_redo.specs.Runs.{IsLogging}
 use Rattle.udf_redo.proofs.Logging.{quiet_logging, then_logging}
 use Rattle.udf_redo.proofs.Reading.{Fits, lawful_from}
-use Rattle.udf_redo.proofs.Logged.{head_new, records_new, closed_new, open_new, fits_for, head_for_lawful, of_for, numbers_for, size_cases, blocks_inside}
+use Rattle.udf_redo.proofs.Logged.{head_new, records_new, closed_new, open_new, fits_for, head_for_lawful, of_for, numbers_for, blocks_inside}
 use Rattle.udf_redo.proofs.Planning.{plan_blocks, plan_below, plan_apart}
 use Rattle.udf_redo.proofs.written.write_log.Goals as goal
 

@@ -7,7 +7,8 @@ use Rattle.udf_rules.specs.declared.finding.Finding.{Finding}
 use Rattle.udf_top.specs.Steps.{IsMending}
 use Rattle.udf_volume_model.specs.Plans.{IsRewrite}
 use Rattle.udf_repair_model.proofs.Repair.{mend_rewrites}
-use Rattle.udf_top.proofs.Mending.{large, opened_ok_as, plan_is, written_is, text_is, mends_stopped, mends_broken}
+use Rattle.udf_model.proofs.Sizes.{large}
+use Rattle.udf_top.proofs.Mending.{opened_ok_as, plan_is, written_is, text_is, mends_stopped, mends_broken}
 use Rattle.udf_top.proofs.Said.{says_failed, says_whole, says_same}
 use Rattle.udf_top.proofs.udffsck.mend.mend_broken.Goals as goal
 

@@ -1,5 +1,6 @@
 use Rattle.std.proofs.Common.{arith, refl, sym, ◌∙◌}
-use Rattle.udf_top.proofs.Mending.{large, quiet, mended_still, empty_plan}
+use Rattle.udf_model.proofs.Sizes.{large}
+use Rattle.udf_top.proofs.Mending.{quiet, mended_still, empty_plan}
 use Rattle.udf_top.proofs.udffsck.mend.write.Goals as goal
 
 pub returns-then-written-eq0-clause-moments : goal.returns-then-written-eq0-clause-moments

@@ -7,7 +7,7 @@ use Rattle.udf_outside.specs.declared.bench.Role.TheVariants.{Image, Side}
 use Rattle.udf_volume_model.specs.Plans.{ClimbsFrom}
 use Rattle.udf_redo.specs.Log.{Edit}
 use Rattle.udf_redo.specs.declared.head.LogHead.{LogHead}
-use Rattle.udf_redo.proofs.Logged.{size_cases}
+use Rattle.udf_model.proofs.Sizes.{size_cases}
 use Rattle.udf_outside.proofs.Runs.{leaves_weaker}
 use Rattle.udf_redo.specs.Runs.{IsLogging}
 use Rattle.udf_top.specs.Steps.{IsMending}

@@ -7,7 +7,7 @@ use Rattle.udf_top.specs.Texts.{replayed_text}
 use Rattle.udf_top.specs.Repairing.{replaying, mend_said}
 use Rattle.udf_top.specs.Steps.{IsSettling, Says}
 use Rattle.udf_top.specs.declared.outcome.Outcome.TheVariants as outcome
-use Rattle.udf_top.proofs.Mending.{large}
+use Rattle.udf_model.proofs.Sizes.{large}
 use Rattle.udf_top.proofs.Safe.{HasBegun, unbegun, begun}
 use Rattle.udf_top.proofs.Ends as ends
 use Rattle.udf_top.proofs.udffsck.repair.repair.Goals as goal
