@@ -1,10 +1,12 @@
 -- What a repair makes of an image.
-use Rattle.std.proofs.Common.{◌≡◌, ◌⊎◌, inl, inr, ℕ, ◌≤◌, refl, sym, ◌∙◌, ap, List, [], length, true, false, not, cond, is_ok}
+use Rattle.std.proofs.Common.{◌≡◌, ◌⊎◌, inl, inr, ℕ, ◌≤◌, refl, sym, ◌∙◌, ap, Option, Some, None, List, [], length, true, false, not, cond, is_ok}
 use Rattle.std.proofs.lemmas.Bool.{cases_Bool, and_parts, and_from}
 use Rattle.udf_volume_model.specs.Profile.{is_protected}
 use Rattle.udf_volume_model.specs.Opened.{is_opened, is_protected_by, is_protected_image, difference}
 use Rattle.udf_volume_model.specs.Plans.{IsRewrite}
 use Rattle.udf_volume_laws.proofs.Final.{IsMendedImage, mended_image}
+use Rattle.udf_volume_model.specs.Size.{found_size, size_of}
+use Rattle.udf_volume_laws.proofs.Sizes.{found_stays}
 use Rattle.udf_volume_laws.proofs.Twice.{stays}
 use Rattle.udf_volume_laws.proofs.Applied.{mended_rewrites}
 use Rattle.udf_volume_laws.proofs.Difference.{no_broken_rule, broken_differs}
@@ -71,3 +73,9 @@ mend_twice size image large = by_cases (cases_Bool (is_accepted size image)) whe
   by_cases (inl a) =
       ap (mend size) (mend_accepted size image a) ∙ mend_stays size (mended size image) (law size image large a).rules ∙ sym (mend_accepted size image a)
   by_cases (inr n) = ap (mend size) (mend_refused size image n)
+
+-- the block size of an image is that of the mended one
+pub size_kept : (given : Option ℕ) (size : ℕ) (image : List ℕ) → size_of given image ≡ Some size → size_of given (mend size image) ≡ Some size
+size_kept (Some wanted) size image is = is
+size_kept None size image is =
+    by_acceptance size image (λ after. found_size after ≡ Some size) (λ a. found_stays image size is (parts size image a).0) (λ n. is)

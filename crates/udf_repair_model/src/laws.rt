@@ -1,5 +1,6 @@
 //! The laws of a repair, as contracts of functions with empty bodies.
-ghost use Rattle.std.specs.Prelude.{◌≡◌, ◌≤◌, ℕ, List, [], length, true, false, is_ok};
+ghost use Rattle.std.specs.Prelude.{◌≡◌, ◌≤◌, ℕ, Option, Some, List, [], length, true, false, is_ok};
+ghost use Rattle.udf_volume_model.specs.Size.{size_of};
 ghost use Rattle.udf_volume_model.specs.Opened.{difference};
 ghost use Rattle.udf_volume_model.specs.Plans.{IsRewrite};
 ghost use Rattle.udf_volume.specs.Writable.{opened_writable};
@@ -7,7 +8,7 @@ ghost use Rattle.udf_repair_model.specs.Accepted.{is_accepted, is_unbroken, mend
 
 /// The mended image of an accepted one is accepted and breaks no rule, and every image is repaired to one that a second repair
 /// leaves. It differs at most in whole blocks: not at all where no rule is broken, and somewhere where an accepted image
-/// breaks one.
+/// breaks one. The block size that is given or found is the same in both.
 pub fn repair_law()
     ensures accepted { (size : ℕ) (image : List ℕ) → 512 ≤ size → is_accepted size image ≡ true → is_accepted size (mended size image) ≡ true }
     ensures unbroken { (size : ℕ) (image : List ℕ) → 512 ≤ size → is_accepted size image ≡ true → is_unbroken size (mended size image) ≡ true }
@@ -17,6 +18,7 @@ pub fn repair_law()
     ensures differs { (size : ℕ) (image : List ℕ) → 512 ≤ size → is_accepted size image ≡ true → is_unbroken size image ≡ false
         → 1 ≤ length (difference size image (mend size image)) }
     ensures alike { (size : ℕ) (image : List ℕ) → is_unbroken size image ≡ true → difference size image (mend size image) ≡ [] }
+    ensures size { (given : Option ℕ) (size : ℕ) (image : List ℕ) → size_of given image ≡ Some size → size_of given (mend size image) ≡ Some size }
 {}
 
 /// An image is accepted for a repair exactly where a volume that may be written is opened.

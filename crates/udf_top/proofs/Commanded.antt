@@ -1,15 +1,24 @@
 -- What words ask for decides what a run answers and prints.
-use Rattle.std.proofs.Common.{◌≡◌, ℕ, zero, suc, ◌++◌, refl, sym, ◌∙◌, ap, subst, List, [], Option, Some, None, Result, take}
+use Rattle.std.proofs.Common.{◌≡◌, ℕ, zero, suc, ◌++◌, refl, sym, ◌∙◌, ap, subst, List, [], Option, Some, None, Result, Err, take}
 use Rattle.std.proofs.lemmas.List.{append-nil}
 use Rattle.udf_outside.specs.Stops.{Pair}
-use Rattle.udf_top.specs.declared.outcome.Cause.{Cause}
+use Rattle.udf_words.specs.declared.cause.Cause.{Cause}
 use Rattle.udf_top.specs.declared.outcome.Outcome.{Outcome}
 use Rattle.udf_top.specs.declared.outcome.Outcome.TheVariants as outcome
-use Rattle.udf_top.specs.Words.{Command, Repair, command_in, repair_by, repair_in}
+use Rattle.udf_words.specs.declared.cause.WordsStop.{WordsStop}
+use Rattle.udf_words.specs.declared.cause.WordsStop.TheVariants.{Usage}
+use Rattle.udf_words.specs.Asked.{ReadsOrStops, command_seen}
+use Rattle.udf_words.specs.Words.{Command, command_in}
+use Rattle.udf_top.specs.Words.{Repair, repair_by, repair_in}
 use Rattle.udf_top.specs.Texts.{text_of}
 use Rattle.udf_top.specs.Endings.{HasEnded}
 use Rattle.udf_top.specs.Udffsck.{outcome_by, outcome_of, said_by, output_of, text_by, HoldsFront}
 use Rattle.udf_top.proofs.Outcomes.{nothing_of}
+
+-- what is read of words that are refused
+pub refused_words : (words : List (List ℕ)) (stop : WordsStop) (cause : Cause) → stop ≡ Usage cause
+    → ReadsOrStops command_seen (command_in words) (Err stop) → command_in words ≡ Err cause
+refused_words words stop cause is read = subst (λ (s : WordsStop). ReadsOrStops command_seen (command_in words) (Err s)) is read
 
 module _ (words : List (List ℕ)) (read : Result Command Cause) (is : command_in words ≡ read) where
   pub outcome_is : (pair : Pair) → outcome_of words pair ≡ outcome_by read pair

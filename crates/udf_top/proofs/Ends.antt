@@ -7,8 +7,11 @@ use Rattle.udf_outside.proofs.Moments.{seen_now, now_counts}
 use Rattle.udf_outside.proofs.Runs.{leaves_weaker, leaves_then}
 use Rattle.udf_volume_model.specs.Size.{size_of}
 use Rattle.udf_repair_model.specs.Accepted.{is_accepted, is_unbroken, mended, mend}
-use Rattle.udf_repair_model.proofs.Repair.{law, mend_accepted, still_accepted}
+use Rattle.udf_repair_model.specs.Sized.{accepted_by, is_accepted_as, unbroken_by}
+use Rattle.udf_repair_model.proofs.Repair.{law, mend_accepted, still_accepted, size_kept}
 use Rattle.udf_volume.specs.declared.missing.Missing.{Missing}
+use Rattle.udf_volume.specs.declared.missing.LayerStop.{LayerStop}
+use Rattle.udf_volume.specs.declared.missing.LayerStop.TheVariants as size_stop
 use Rattle.udf_volume.specs.declared.volume.Volume.{Volume}
 use Rattle.udf_volume.specs.Writable.{opened_writable}
 use Rattle.udf_redo.specs.declared.stop.RedoStop.{RedoStop}
@@ -20,14 +23,14 @@ use Rattle.udf_top.specs.declared.outcome.Outcome.{Outcome}
 use Rattle.udf_top.specs.declared.outcome.Outcome.TheVariants as outcome
 use Rattle.udf_rules.specs.Found.{findings_in}
 use Rattle.udf_top.specs.Texts.{text_of, replayed_text}
-use Rattle.udf_top.specs.Repairing.{replaying, refused_log, repaired_as, mend_of, mend_said, said_sized, written_in, repair_from, repair_of, said_from, repair_said}
+use Rattle.udf_top.specs.Repairing.{replaying, refused_log, refused_size, repaired_as, mend_of, mend_sized, mend_said, said_sized, written_in, repair_from, repair_of, said_from, repair_said}
 use Rattle.udf_top.specs.Endings.{Ending, Mended, Told, DeviceFailed, Failed, ending_of, IsEnd, IsMendedOrFailed, IsUnopened, HasEnded, HasRepaired, HasRepairedOrFailed, HasOpenedNoGate}
 use Rattle.udf_top.specs.Headline.{IsDone, IsSafe, IsReplayed, Repairs}
 use Rattle.udf_top.specs.Steps.{IsSettling, IsMending, IsMended, Mends, Says}
-use Rattle.udf_top.specs.Udffsck.{said_beside, HoldsFront}
+use Rattle.udf_top.specs.Udffsck.{said_beside, HoldsFront, Sizes}
 use Rattle.udf_top.proofs.Commanded.{front_of_none}
 use Rattle.udf_top.proofs.Mending.{ended_repaired, mend_ok, mend_refused, accepted_ok, not_accepted}
-use Rattle.udf_top.proofs.Safe.{HasBegun, can_go, cannot, not_open, target_goes, safe_mending}
+use Rattle.udf_top.proofs.Safe.{HasBegun, sized_mend, can_go, cannot, not_open, target_goes, safe_mending}
 use Rattle.udf_top.proofs.Said.{says_failed, says_same, says_then, first_held}
 
 -- outcomes, by their endings
@@ -197,7 +200,8 @@ repaired_accepted size replayed image repaired = by_opened (opened_writable size
   by_opened (Err missing) e = absurd (subst HasRepaired (mend_refused size image replayed missing e) repaired)
 
 -- The whole: `middle` is after the replay, `end` after the difference was written.
-module _ (size replayed : ℕ) (old middle end : Held) (result : Outcome) (large : 512 ≤ size) (has : HasBegun (Some size) old middle)
+module _ (given : Option ℕ) (size replayed : ℕ) (old middle end : Held) (result : Outcome) (sized : size_of given (settled (pair_of old)) ≡ Some size)
+    (large : 512 ≤ size) (has : HasBegun given old middle)
     (answer : replaying (pair_of old) ≡ Ok replayed) (moments : CanGoOn (pair_of old) → LeavesOnly old middle (IsSettling (pair_of old)))
     (image_is : bytes_of Image middle ≡ settled (pair_of old)) (free : IsFree (bytes_of Side middle)) (rests : IsSettled middle)
     (mends : Mends size replayed middle end result) where
@@ -207,29 +211,33 @@ module _ (size replayed : ℕ) (old middle end : Held) (result : Outcome) (large
   here : IsSettling (pair_of old) (pair_of middle)
   here = let all = moments can in all.each (pair_of middle) (now_counts middle (moment old) (pair_of middle) all.later (seen_now middle))
 
-  safe : LeavesOnly old end (IsSafe (Some size) (pair_of old))
+  safe : LeavesOnly old end (IsSafe given (pair_of old))
   safe =
-      leaves_then old middle end (IsSafe (Some size) (pair_of old)) has.safe
-      (leaves_weaker middle end (IsMending size (settled (pair_of old)) (mend size (settled (pair_of old)))) (IsSafe (Some size) (pair_of old))
-      (λ pair is. safe_mending size (pair_of old) pair can (pair_of middle) large image_is here is)
+      leaves_then old middle end (IsSafe given (pair_of old)) has.safe
+      (leaves_weaker middle end (IsMending size (settled (pair_of old)) (mend size (settled (pair_of old)))) (IsSafe given (pair_of old))
+      (λ pair is. safe_mending given size (pair_of old) sized pair can (pair_of middle) large image_is here is)
       (subst (λ (v : List ℕ). LeavesOnly middle end (IsMending size v (mend size v))) image_is mends.moments))
 
   is_mend : HasEnded result → result ≡ mend_of size replayed (settled (pair_of old))
   is_mend ended = mends.outcome ended ∙ ap (mend_of size replayed) image_is
 
-  pub outcome_mended : HasEnded result → result ≡ repair_of (Some size) (pair_of old)
+  pub outcome_mended : HasEnded result → result ≡ repair_of given (pair_of old)
   unfolding repair_of
-  outcome_mended ended = is_mend ended ∙ sym (ap (λ (r : Result ℕ RedoStop). repair_from (Some size) r (settled (pair_of old))) answer)
+  outcome_mended ended =
+      is_mend ended
+      ∙ sym (ap (λ (found : Option ℕ). mend_sized found replayed (settled (pair_of old))) sized)
+      ∙ sym (ap (λ (r : Result ℕ RedoStop). repair_from given r (settled (pair_of old))) answer)
 
-  done : HasRepaired result → IsDone (Some size) (pair_of old) end
+  done : HasRepaired result → IsDone given (pair_of old) end
   done repaired =
       let j = settled (pair_of old) in
       let accepted = repaired_accepted size replayed j (subst HasRepaired (is_mend (ended_repaired result repaired)) repaired) in
       let is : IsMended (mend size j) end = subst (λ (v : List ℕ). IsMended (mend size v) end) image_is (mends.done repaired) in
-      let made : bytes_of Image end ≡ mended size j = is.holds ∙ mend_accepted size j accepted in record {
-        holds = is.holds ∙ sym (target_goes (bytes_of Image old) (bytes_of Side old) (Some size) can);
-        accepted = ap (is_accepted size) made ∙ still_accepted size j large accepted;
-        unbroken = ap (is_unbroken size) made ∙ (law size j large accepted).rules;
+      let made : bytes_of Image end ≡ mended size j = is.holds ∙ mend_accepted size j accepted in
+      let kept : size_of given (bytes_of Image end) ≡ Some size = ap (size_of given) is.holds ∙ size_kept given size j sized in record {
+        holds = is.holds ∙ sym (target_goes (bytes_of Image old) (bytes_of Side old) given can ∙ sized_mend given size j sized);
+        accepted = ap (λ (found : Option ℕ). accepted_by found (bytes_of Image end)) kept ∙ ap (is_accepted size) made ∙ still_accepted size j large accepted;
+        unbroken = ap (λ (found : Option ℕ). unbroken_by found (bytes_of Image end)) kept ∙ ap (is_unbroken size) made ∙ (law size j large accepted).rules;
         side = is.side;
         settled = is.settled;
       }
@@ -241,17 +249,85 @@ module _ (size replayed : ℕ) (old middle end : Held) (result : Outcome) (large
     settled = subst (λ (h : Held). IsSettled h) (sym same) rests;
   }
 
-  pub repairs_mended : Repairs (Some size) old end result
+  pub repairs_mended : Repairs given old end result
   repairs_mended = record {
     moments = safe;
-    complete = λ go accepted. ended_as result (mend_of size replayed (settled (pair_of old))) is_mend (accepted_ends size replayed (settled (pair_of old)) accepted);
+    complete = λ go accepted.
+        let j = settled (pair_of old) in
+        ended_as result (mend_of size replayed j) is_mend
+        (accepted_ends size replayed j (sym (ap (λ (found : Option ℕ). accepted_by found j) sized) ∙ accepted));
     done = done;
     still = λ none unbroken.
         let same = has.still none in
-        mends.unbroken (ap (λ (h : Held). is_unbroken size (bytes_of Image h)) same ∙ unbroken) ∙ same;
+        let here : bytes_of Image old ≡ settled (pair_of old) = sym (ap (λ (h : Held). bytes_of Image h) same) ∙ image_is in
+        let found : size_of given (bytes_of Image old) ≡ Some size = ap (size_of given) here ∙ sized in
+        mends.unbroken
+        (ap (λ (h : Held). is_unbroken size (bytes_of Image h)) same ∙ sym (ap (λ (f : Option ℕ). unbroken_by f (bytes_of Image old)) found) ∙ unbroken)
+        ∙ same;
     refused = λ none not. mends.unopened (no_gate result not) ∙ has.still none;
     settled_only = λ missing e. replayed_to (mends.unopened (subst HasOpenedNoGate (sym e) tt));
     replayed_only = λ none. inr (replayed_to (mends.unopened none));
     unopened = λ unopened.
         subst (λ (h : Held). LeavesOnly old h (λ pair. settled pair ≡ settled (pair_of old))) (sym (mends.unopened unopened)) has.stands;
   }
+
+-- No block size: `middle` is after the replay, and the rest reads alone.
+module _ (given : Option ℕ) (replayed : ℕ) (old middle : Held) (result : Outcome) (has : HasBegun given old middle)
+    (answer : replaying (pair_of old) ≡ Ok replayed) (image_is : bytes_of Image middle ≡ settled (pair_of old)) (free : IsFree (bytes_of Side middle))
+    (rests : IsSettled middle) (why : LayerStop) (sizes : Sizes given (settled (pair_of old)) (Err why)) (is : HasEnded result → result ≡ refused_size why) where
+  abbrev j : List ℕ
+  j = settled (pair_of old)
+
+  not_ended_unsized : (w : LayerStop) → Sizes given j (Err w) → is_accepted_as given j ≡ true → HasEnded (refused_size w) → ⊥
+  not_ended_unsized (size_stop.Missing missing) s accepted ended =
+      absurd (let no : false ≡ true = sym (ap (λ (found : Option ℕ). accepted_by found j) s.0) ∙ accepted in cc)
+  not_ended_unsized size_stop.Fault s accepted ended = ended
+  not_ended_unsized size_stop.Memory s accepted ended = ended
+
+  not_repaired_unsized : (w : LayerStop) → HasRepaired (refused_size w) → ⊥
+  not_repaired_unsized (size_stop.Missing missing) h = h
+  not_repaired_unsized size_stop.Fault h = h
+  not_repaired_unsized size_stop.Memory h = h
+
+  stays_replayed : IsReplayed (pair_of old) middle
+  stays_replayed = record { holds = image_is; side = free; settled = rests }
+
+  pub repairs_unsized : Repairs given old middle result
+  repairs_unsized = record {
+    moments = has.safe;
+    complete = λ can accepted. failed_or result (λ ended. not_ended_unsized why sizes accepted (subst HasEnded (is ended) ended));
+    done = λ repaired. absurd (not_repaired_unsized why (subst HasRepaired (is (ended_repaired result repaired)) repaired));
+    still = λ none unbroken. has.still none;
+    refused = λ none not. has.still none;
+    settled_only = λ missing e. stays_replayed;
+    unopened = λ unopened. has.stands;
+    replayed_only = λ none. inr stays_replayed;
+  }
+
+  refused_as : (w : LayerStop) → Sizes given j (Err w) → HasEnded (refused_size w) → refused_size w ≡ mend_sized (size_of given j) replayed j
+  refused_as (size_stop.Missing missing) s ended =
+      ap outcome.Refused s.1 ∙ sym (ap (λ (found : Option ℕ). mend_sized found replayed j) s.0)
+  refused_as size_stop.Fault s ended = absurd ended
+  refused_as size_stop.Memory s ended = absurd ended
+
+  pub outcome_unsized : HasEnded result → result ≡ repair_of given (pair_of old)
+  unfolding repair_of
+  outcome_unsized ended =
+      is ended ∙ refused_as why sizes (subst HasEnded (is ended) ended)
+      ∙ sym (ap (λ (r : Result ℕ RedoStop). repair_from given r j) answer)
+
+  pub says_unsized : (told : Option (List ℕ)) (before medium side : List ℕ)
+      → Says told (before ++ replayed_text medium replayed) (text_of medium (refused_size why)) result
+      → Says told before (repair_said given medium side (pair_of old)) result
+  unfolding text_of
+  says_unsized told before medium side says = says_mended given old middle has result replayed answer told before medium side (by_stop why sizes is says) where
+    front : List ℕ
+    front = before ++ replayed_text medium replayed
+
+    by_stop : (w : LayerStop) → Sizes given j (Err w) → (HasEnded result → result ≡ refused_size w) → Says told front (text_of medium (refused_size w)) result
+        → Says told front (said_sized (size_of given j) medium j) result
+    by_stop (size_stop.Missing missing) s i says =
+        says_same told front _ _ result
+        (ap (λ (m : Missing). text_of medium (outcome.Refused m)) s.1 ∙ sym (ap (λ (found : Option ℕ). said_sized found medium j) s.0)) says
+    by_stop size_stop.Fault s i says = says_failed told front _ result (front_of_none told front _ says.front) (λ ended. subst HasEnded (i ended) ended)
+    by_stop size_stop.Memory s i says = says_failed told front _ result (front_of_none told front _ says.front) (λ ended. subst HasEnded (i ended) ended)

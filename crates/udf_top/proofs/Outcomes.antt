@@ -4,26 +4,40 @@ use Rattle.std.proofs.lemmas.List.{append-nil}
 use Rattle.std.proofs.lemmas.Nat.{div-add-mod'}
 use Rattle.udf_volume.specs.declared.missing.Missing.{Missing}
 use Rattle.udf_volume.specs.declared.volume.Volume.{Volume}
+use Rattle.udf_volume_model.specs.Size.{size_of}
 use Rattle.udf_volume.specs.Opened.{opened}
+use Rattle.udf_volume.specs.declared.missing.LayerStop.{LayerStop}
+use Rattle.udf_volume.specs.declared.missing.LayerStop.TheVariants as stops
 use Rattle.udf_rules.specs.declared.finding.Finding.{Finding}
 use Rattle.udf_top.specs.declared.outcome.Outcome.TheVariants as outcome
 use Rattle.udf_rules.specs.Found.{findings_in}
 use Rattle.udf_top.specs.Texts.{replayed_text}
-use Rattle.udf_top.specs.Udffsck.{by_findings, by_opened, check_at, HoldsFront}
+use Rattle.udf_top.specs.Udffsck.{by_findings, by_opened, check_at, check_sized, check_of, Examines, ExaminesAt, HoldsFront}
 
 -- the blocks of a volume lie in the image
 pub fits : (volume : Volume) (size length : ℕ) → 512 ≤ size → volume.size ≡ size → volume.blocks ≡ length / size → volume.blocks * volume.size ≤ length
 fits volume size length large same blocks =
     let e : length / size * size + length % size ≡ length = div-add-mod' length size in rw (same, blocks) (omega arith)
 
-pub refused : (size : ℕ) (image : List ℕ) (missing : Missing) → opened size image ≡ Err missing → outcome.Refused missing ≡ check_at size image
+refused : (size : ℕ) (image : List ℕ) (missing : Missing) → opened size image ≡ Err missing → outcome.Refused missing ≡ check_at size image
 unfolding check_at
 refused size image missing e = sym (ap (λ (r : Result Volume Missing). by_opened r (findings_in size image)) e)
 
-pub examined : (size : ℕ) (image : List ℕ) (findings : List Finding) → ((volume : Volume) × (opened size image ≡ Ok volume)) → findings ≡ findings_in size image
+examined : (size : ℕ) (image : List ℕ) (findings : List Finding) → ((volume : Volume) × (opened size image ≡ Ok volume)) → findings ≡ findings_in size image
     → by_findings findings ≡ check_at size image
 unfolding check_at
 examined size image findings (volume, e) is = ap by_findings is ∙ sym (ap (λ (r : Result Volume Missing). by_opened r (findings_in size image)) e)
+
+-- at the block size that is given or found
+module _ (given : Option ℕ) (image : List ℕ) (size : ℕ) (sized : size_of given image ≡ Some size) where
+  at_size : check_at size image ≡ check_of given image
+  at_size = sym (ap (λ (found : Option ℕ). check_sized found image) sized)
+
+  pub examined_sized : (answer : Result (List Finding) LayerStop) → ExaminesAt size image answer → Examines given image answer
+  examined_sized (Ok findings) (opens, is) = examined size image findings opens is ∙ at_size
+  examined_sized (Err (stops.Missing missing)) refuses = refused size image missing refuses ∙ at_size
+  examined_sized (Err stops.Fault) answers = tt
+  examined_sized (Err stops.Memory) answers = tt
 
 pub nothing_of : (told : Option (List ℕ)) (before text : List ℕ) → told ≡ Some before → HoldsFront told before text
 nothing_of told before text e = (0, e ∙ ap Some (sym (append-nil before)))

@@ -5,8 +5,9 @@ use Rattle.udf_outside.specs.Stops.{Held, Pair, bytes_of, pair_of, IsSettled, Le
 use Rattle.udf_outside.proofs.Runs.{leaves_same, leaves_weaker}
 use Rattle.udf_volume_model.specs.Opened.{plan_of}
 use Rattle.udf_repair_model.specs.Accepted.{mend}
-use Rattle.udf_repair_model.specs.Sized.{mend_as}
-use Rattle.udf_repair_model.proofs.Repair.{mend_twice}
+use Rattle.udf_volume_model.specs.Size.{size_of}
+use Rattle.udf_repair_model.specs.Sized.{mend_as, mend_by}
+use Rattle.udf_repair_model.proofs.Repair.{mend_twice, size_kept}
 use Rattle.udf_redo.specs.declared.side.SideState.{SideState}
 use Rattle.udf_redo.specs.declared.side.SideState.TheVariants.{Empty, Closed, Open}
 use Rattle.udf_redo.specs.declared.stop.RedoStop.{RedoStop}
@@ -14,7 +15,7 @@ use Rattle.udf_redo.specs.Log.{state_of}
 use Rattle.udf_redo.specs.Settled.{settled, IsOpenLog, CanGoOn, IsElsewhere}
 use Rattle.udf_redo.proofs.States.{settled_other}
 use Rattle.udf_top.specs.Repairing.{replaying, target, target_by}
-use Rattle.udf_top.specs.Headline.{IsSafe}
+use Rattle.udf_top.specs.Headline.{IsSafe, IsUnmended}
 use Rattle.udf_top.specs.Steps.{IsSettling, IsMending}
 use Rattle.udf_top.proofs.Settling.{replaying_as, replaying_free, replaying_open, open_answered, settled_free, replays_log}
 
@@ -75,20 +76,26 @@ module _ (given : Option ℕ) (start pair : Pair) (can : CanGoOn start) where
     same_seal = λ log. inl is.same_seal;
   }
 
-module _ (size : ℕ) (start pair : Pair) (can : CanGoOn start) where
+-- the mended image, where a size is given or found
+pub sized_mend : (given : Option ℕ) (size : ℕ) (image : List ℕ) → size_of given image ≡ Some size → mend_as given image ≡ mend size image
+sized_mend given size image sized = ap (λ (found : Option ℕ). mend_by found image) sized
+
+module _ (given : Option ℕ) (size : ℕ) (start : Pair) (sized : size_of given (settled start) ≡ Some size) (pair : Pair) (can : CanGoOn start) where
   -- `middle` is the pair after the replay
-  pub safe_mending : (middle : Pair) → 512 ≤ size → middle.0 ≡ settled start → IsSettling start middle → IsMending size (settled start) (mend size (settled start)) pair → IsSafe (Some size) start pair
+  pub safe_mending : (middle : Pair) → 512 ≤ size → middle.0 ≡ settled start → IsSettling start middle → IsMending size (settled start) (mend size (settled start)) pair → IsSafe given start pair
   safe_mending middle large same before is =
-      let wanted : target (Some size) start ≡ mend size (settled start) = target_goes start.0 start.1 (Some size) can in record {
-        same_target = target_goes pair.0 pair.1 (Some size) is.goes_on
-            ∙ ⊎_elim (λ as_is. ap (mend size) as_is) (λ done. ap (mend size) done ∙ mend_twice size (settled start) large) is.stands_for
+      let j = settled start in
+      let wanted : target given start ≡ mend size j = target_goes start.0 start.1 given can ∙ sized_mend given size j sized in record {
+        same_target = target_goes pair.0 pair.1 given is.goes_on
+            ∙ ⊎_elim (λ as_is. ap (mend_as given) as_is ∙ sized_mend given size j sized)
+            (λ done. ap (mend_as given) done ∙ sized_mend given size (mend size j) (size_kept given size j sized) ∙ mend_twice size j large) is.stands_for
             ∙ sym wanted;
         gate = ⊎_elim (λ log. inl log)
             (λ here. inr (⊎_elim (λ as_is. inl (here ∙ as_is)) (λ done. inr (here ∙ done ∙ sym wanted)) is.stands_for))
             (gate_of pair.0 pair.1 is.goes_on);
         same_length = is.same_length ∙ ap length (sym same) ∙ before.same_length;
         same_elsewhere = λ i log plan.
-            is.same_elsewhere i (subst (λ (v : List ℕ). IsElsewhere size (plan_of size (settled start) v) i) wanted plan)
+            is.same_elsewhere i (subst (λ (v : List ℕ). IsElsewhere size (plan_of size j v) i) wanted (subst (λ (found : Option ℕ). IsUnmended found given start i) sized plan))
             ∙ ap (λ (v : List ℕ). get_or v i 0) (sym same) ∙ before.same_elsewhere i log;
         same_seal = λ log. inr is.same_seal;
       }

@@ -1,6 +1,6 @@
 -- What a repair asks of its bench.
 use Rattle.std.specs.Prelude.{◌≡◌, ◌⊎◌, true, false, List, ℕ, Some, IfSome}
-use Rattle.udf_outside.specs.declared.bench.Access.TheVariants.{Write, Create}
+use Rattle.udf_outside.specs.declared.bench.Access.TheVariants.{Read, Write, Create}
 use Rattle.udf_outside.specs.Files.{Files}
 use Rattle.udf_top.specs.Words.{Repair}
 use Rattle.udf_top.specs.declared.outcome.Outcome.{Outcome}
@@ -18,6 +18,12 @@ abbrev pub AsksFor : Repair → Outcome → Files → Files → Type 0
 AsksFor repair result old new =
     ((result ≡ outcome.Memory) × (new ≡ old))
     ⊎ ((new.image.asked ≡ Some Write) × (IfSome new.image.name (λ told. told ≡ repair.medium) × WasAsked repair.side old new))
+
+-- A check asked for the image alone, by its name, for reading; or, for want of memory, for nothing.
+abbrev pub AsksToCheck : List ℕ → Outcome → Files → Files → Type 0
+AsksToCheck medium result old new =
+    ((result ≡ outcome.Memory) × (new ≡ old))
+    ⊎ ((new.image.asked ≡ Some Read) × (IfSome new.image.name (λ told. told ≡ medium) × (new.side ≡ old.side)))
 
 -- nothing was asked for, and only the size of the side file may differ
 pub record KeepsAsked (old new : Files) : Type 0 where

@@ -1,7 +1,6 @@
 pub mod Endings
 pub mod Status
 pub mod Words
-pub mod Asked
 pub mod Texts
 pub mod Attaching
 pub mod Repairing

@@ -7,6 +7,8 @@ use Rattle.udf_repair_model.specs.Accepted.{mend}
 use Rattle.udf_repair_model.specs.Sized.{mend_as}
 use Rattle.udf_volume.specs.declared.missing.Missing.{Missing}
 use Rattle.udf_volume.specs.declared.missing.Missing.TheVariants.{Anchor}
+use Rattle.udf_volume.specs.declared.missing.LayerStop.{LayerStop}
+use Rattle.udf_volume.specs.declared.missing.LayerStop.TheVariants as size_stop
 use Rattle.udf_volume.specs.declared.volume.Volume.{Volume}
 use Rattle.udf_volume.specs.Writable.{opened_writable}
 use Rattle.udf_redo.specs.declared.side.SideState.{SideState}
@@ -38,6 +40,12 @@ refused_log stop.BadLog = outcome.BadLog
 refused_log (stop.WrongImage clash) = outcome.WrongImage clash
 refused_log stop.Fault = outcome.DeviceFault
 refused_log stop.Memory = outcome.Memory
+
+-- the outcome where the image has no block size
+abbrev pub refused_size : LayerStop → Outcome
+refused_size (size_stop.Missing missing) = outcome.Refused missing
+refused_size size_stop.Fault = outcome.DeviceFault
+refused_size size_stop.Memory = outcome.Memory
 
 -- the number of blocks in which the mended image differs
 unfoldable pub written_in : ℕ → List ℕ → ℕ

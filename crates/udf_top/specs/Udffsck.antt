@@ -12,8 +12,8 @@ use Rattle.udf_volume.specs.Opened.{opened}
 use Rattle.udf_rules.specs.declared.finding.Finding.{Finding}
 use Rattle.udf_top.specs.declared.outcome.Outcome.{Outcome}
 use Rattle.udf_top.specs.declared.outcome.Outcome.TheVariants as outcome
-use Rattle.udf_top.specs.declared.outcome.Cause.{Cause}
-use Rattle.udf_top.specs.Words.{Command, command_in}
+use Rattle.udf_words.specs.declared.cause.Cause.{Cause}
+use Rattle.udf_words.specs.Words.{Command, command_in}
 use Rattle.udf_rules.specs.Found.{findings_in}
 use Rattle.udf_top.specs.Texts.{text_of}
 use Rattle.udf_top.specs.Repairing.{repair_of, repair_said}
@@ -74,8 +74,22 @@ abbrev pub HoldsFront : Option (List ℕ) → List ℕ → List ℕ → Type 0
 HoldsFront told before text = (k : ℕ) × (told ≡ Some (before ++ take k text))
 
 -- what an examination of an image answers, unless a fault or want of memory came
-abbrev pub Examines : ℕ → List ℕ → Result (List Finding) LayerStop → Type 0
-Examines size image (Ok findings) = ((volume : Volume) × (opened size image ≡ Ok volume)) × (findings ≡ findings_in size image)
-Examines size image (Err (stops.Missing missing)) = opened size image ≡ Err missing
-Examines size image (Err stops.Fault) = Unit {0}
-Examines size image (Err stops.Memory) = Unit {0}
+abbrev pub Examines : Option ℕ → List ℕ → Result (List Finding) LayerStop → Type 0
+Examines given image (Ok findings) = by_findings findings ≡ check_of given image
+Examines given image (Err (stops.Missing missing)) = outcome.Refused missing ≡ check_of given image
+Examines given image (Err stops.Fault) = Unit {0}
+Examines given image (Err stops.Memory) = Unit {0}
+
+-- the same at a block size
+abbrev pub ExaminesAt : ℕ → List ℕ → Result (List Finding) LayerStop → Type 0
+ExaminesAt size image (Ok findings) = ((volume : Volume) × (opened size image ≡ Ok volume)) × (findings ≡ findings_in size image)
+ExaminesAt size image (Err (stops.Missing missing)) = opened size image ≡ Err missing
+ExaminesAt size image (Err stops.Fault) = Unit {0}
+ExaminesAt size image (Err stops.Memory) = Unit {0}
+
+-- the block size that is given, or else found, unless a fault or want of memory came
+abbrev pub Sizes : Option ℕ → List ℕ → Result ℕ LayerStop → Type 0
+Sizes given image (Ok size) = size_of given image ≡ Some size
+Sizes given image (Err (stops.Missing missing)) = (size_of given image ≡ None) × (missing ≡ Anchor)
+Sizes given image (Err stops.Fault) = Unit {0}
+Sizes given image (Err stops.Memory) = Unit {0}

@@ -11,6 +11,6 @@ mod text;
 mod udffsck;
 
 pub use laws::{chain_law, clean_law, rerun_law};
-pub use outcome::{Cause, Outcome, status};
+pub use outcome::{Outcome, status};
 pub use udf_rules::{Finding, Findings, Place, report_line};
 pub use udffsck::run_udffsck;

@@ -5,15 +5,7 @@ ghost use Rattle.udf_top.specs.Status.{status_of};
 use crate::Findings;
 use udf_redo::Clash;
 use udf_volume::Missing;
-
-/// Why words are no command.
-#[derive(Clone, Copy, Debug, PartialEq, Eq)]
-pub enum Cause {
-    /// They have none of the forms.
-    Words,
-    /// They have one, and the block size is none of the four.
-    Value,
-}
+use udf_words::Cause;
 
 /// How a run ends.
 #[derive(Debug, Drop)]

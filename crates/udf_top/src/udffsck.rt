@@ -2,15 +2,15 @@
 ghost use Rattle.std.specs.Prelude.{◌≡◌, ◌++◌, ℕ, List, true, false, Some, None, Ok, Err, map, string_bytes, IfSome};
 ghost use Rattle.udf_outside.specs.Stops.{pair_of, IsSettled};
 ghost use Rattle.udf_outside.specs.Causes.{Rose};
-ghost use Rattle.udf_outside.specs.declared.bench.Access.TheVariants.{Read};
-ghost use Rattle.udf_top.specs.declared.outcome.Cause.{Cause};
+ghost use Rattle.udf_words.specs.declared.cause.Cause.{Cause};
 ghost use Rattle.udf_volume.specs.declared.missing.Missing.{Missing};
 ghost use Rattle.udf_volume.specs.Refusals.{IsOfVolume};
 ghost use Rattle.udf_model.specs.Size.{is_size};
-ghost use Rattle.udf_top.specs.Words.{Command, Repair, command_in, repair_in, beside, checks, names_one_by, names_one_file};
-ghost use Rattle.udf_top.specs.Asked.{side_seen};
+ghost use Rattle.udf_top.specs.Words.{Repair, repair_in, beside, checks, names_one_by, names_one_file};
+ghost use Rattle.udf_words.specs.Words.{Command, command_in};
+ghost use Rattle.udf_words.specs.Asked.{side_seen};
 ghost use Rattle.udf_top.specs.Texts.{text_of};
-ghost use Rattle.udf_top.specs.Attaching.{AsksFor};
+ghost use Rattle.udf_top.specs.Attaching.{AsksFor, AsksToCheck};
 ghost use Rattle.udf_top.specs.Steps.{Says};
 ghost use Rattle.udf_top.specs.Endings.{HasEnded};
 ghost use Rattle.udf_top.specs.Headline.{Repairs};
@@ -22,18 +22,18 @@ use check::check;
 use repair::repair;
 use std::alloc::Global;
 use udf_outside::{Bench, Sink};
-use words::{Work, command_of, side_name};
+use udf_words::{WordsStop, Work, command_of, side_name};
 
 pub(crate) mod check;
 pub(crate) mod mend;
 pub(crate) mod repair;
 pub(crate) mod settle;
-pub(crate) mod words;
+pub(crate) mod sized;
 
 // A repair beside the side file that the words name.
 fn repair_beside<B: Bench, O: Sink>(
     alloc: Global,
-    size: u32,
+    given: Option<u32>,
     medium: &str,
     named: Option<&str>,
     bench: &mut B,
@@ -41,24 +41,24 @@ fn repair_beside<B: Bench, O: Sink>(
 ) -> Outcome
     requires image { (B.files bench.old).image.asked ≡ None }
     requires side { (B.files bench.old).side.asked ≡ None }
-    requires size { is_size size ≡ true }
+    requires given { IfSome given (λ size. is_size size ≡ true) }
     requires settled { B.tells → IsSettled (B.held bench.old) }
     ensures outcome { B.tells → HasEnded result
-        → result ≡ outcome_beside (side_seen (Work.Repair named.entry) medium.now) (Some size) medium.now (pair_of (B.held bench.old)) }
+        → result ≡ outcome_beside (side_seen (Work.Repair named.entry) medium.now) given medium.now (pair_of (B.held bench.old)) }
     ensures said { B.tells → (before : List ℕ) → O.told out.old ≡ Some before → Says (O.told out.new) before
-        (said_beside (side_seen (Work.Repair named.entry) medium.now) (Some size) medium.now (pair_of (B.held bench.old))) result }
-    ensures unsaid { beside (side_seen (Work.Repair named.entry) medium.now) (Some size) medium.now ≡ None → (before : List ℕ)
+        (said_beside (side_seen (Work.Repair named.entry) medium.now) given medium.now (pair_of (B.held bench.old))) result }
+    ensures unsaid { beside (side_seen (Work.Repair named.entry) medium.now) given medium.now ≡ None → (before : List ℕ)
         → O.told out.old ≡ Some before → HasEnded result → O.told out.new ≡ Some (before ++ text_of medium.now result) }
     ensures device { result ≡ Outcome.DeviceFault → Rose (B.faults bench.old) (B.faults bench.new) }
     ensures out { result ≡ Outcome.OutFault → Rose (O.faults out.old) (O.faults out.new) }
     ensures usage { (cause : Cause) → result ≡ Outcome.Usage cause → ⊥ }
     ensures same_file { result ≡ Outcome.SameFile → names_one_by (side_seen (Work.Repair named.entry) medium.now) medium.now ≡ true }
     ensures same_names { names_one_by (side_seen (Work.Repair named.entry) medium.now) medium.now ≡ true → HasEnded result → result ≡ Outcome.SameFile }
-    ensures asked { (repair : Repair) → beside (side_seen (Work.Repair named.entry) medium.now) (Some size) medium.now ≡ Some repair
+    ensures asked { (repair : Repair) → beside (side_seen (Work.Repair named.entry) medium.now) given medium.now ≡ Some repair
         → AsksFor repair result (B.files bench.old) (B.files bench.new) }
-    ensures unasked { beside (side_seen (Work.Repair named.entry) medium.now) (Some size) medium.now ≡ None → B.files bench.new ≡ B.files bench.old }
-    ensures held { beside (side_seen (Work.Repair named.entry) medium.now) (Some size) medium.now ≡ None → B.held bench.new ≡ B.held bench.old }
-    ensures repairs { B.tells → (repair : Repair) → beside (side_seen (Work.Repair named.entry) medium.now) (Some size) medium.now ≡ Some repair
+    ensures unasked { beside (side_seen (Work.Repair named.entry) medium.now) given medium.now ≡ None → B.files bench.new ≡ B.files bench.old }
+    ensures held { beside (side_seen (Work.Repair named.entry) medium.now) given medium.now ≡ None → B.held bench.new ≡ B.held bench.old }
+    ensures repairs { B.tells → (repair : Repair) → beside (side_seen (Work.Repair named.entry) medium.now) given medium.now ≡ Some repair
         → Repairs repair.size (B.held bench.old) (B.held bench.new) result }
 {
     let Ok(name) = side_name(alloc, medium, named) else {
@@ -68,12 +68,11 @@ fn repair_beside<B: Bench, O: Sink>(
     if side == medium {
         return say(alloc, medium, Outcome::SameFile, out);
     }
-    repair(alloc, size, medium, side, bench, out)
+    repair(alloc, given, medium, side, bench, out)
 }
 
-/// Checks an image, `udffsck -c -B SIZE MEDIUM`, or repairs it under the log in a side file,
-/// `udffsck -p -B SIZE [--redo FILE] MEDIUM`. `words` are those after the program's name. Every line goes to the sink.
-#[tactic(auto, using(udf_model::proofs::Sizes::large))]
+/// Checks an image, `udffsck -c [-B SIZE] MEDIUM`, or repairs it under the log in a side file,
+/// `udffsck -p [-B SIZE] [--redo FILE] MEDIUM`. `words` are those after the program's name. Every line goes to the sink.
 pub fn run_udffsck<B: Bench, O: Sink>(
     alloc: Global,
     words: &[String],
@@ -113,10 +112,9 @@ pub fn run_udffsck<B: Bench, O: Sink>(
     ensures out { result ≡ Outcome.OutFault → Rose (O.faults out.old) (O.faults out.new) }
 
     // A check asks for the image alone, for reading. A repair asks for the image, for writing, and then for the side file, to
-    // be made where it is missing. Each is asked for by its name, and other words ask for nothing.
+    // be made where it is missing. Each is asked for by its name, or nothing for want of memory, and other words ask for nothing.
     ensures checked { (command : Command) → command_in (map string_bytes words.now) ≡ Ok command → command.side ≡ None
-        → ((B.files bench.new).image.asked ≡ Some Read) × (IfSome (B.files bench.new).image.name (λ told. told ≡ command.medium)
-        × ((B.files bench.new).side ≡ (B.files bench.old).side)) }
+        → AsksToCheck command.medium result (B.files bench.old) (B.files bench.new) }
     ensures repaired { (repair : Repair) → repair_in (map string_bytes words.now) ≡ Some repair
         → AsksFor repair result (B.files bench.old) (B.files bench.new) }
     ensures unasked { repair_in (map string_bytes words.now) ≡ None → checks (command_in (map string_bytes words.now)) ≡ false
@@ -129,8 +127,9 @@ pub fn run_udffsck<B: Bench, O: Sink>(
     ensures repairs { B.tells → (repair : Repair) → repair_in (map string_bytes words.now) ≡ Some repair
         → Repairs repair.size (B.held bench.old) (B.held bench.new) result }
 {
-    match command_of(words) {
-        Err(cause) => say(alloc, "", Outcome::Usage(cause), out),
+    match command_of(alloc, words) {
+        Err(WordsStop::Usage(cause)) => say(alloc, "", Outcome::Usage(cause), out),
+        Err(WordsStop::Memory) => Outcome::Memory,
         Ok(command) => match command.work {
             Work::Check => {
                 let outcome = check(alloc, command.size, command.medium, bench);

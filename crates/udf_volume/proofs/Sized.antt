@@ -1,9 +1,15 @@
 -- The block size of an image.
-use Rattle.std.proofs.Common.{◌≡◌, ◌≤◌, ◌<◌, ◌/◌, ◌&&◌, ℕ, nat_lt, length, sym, ◌∙◌, ap, subst, List, Bool, true, false}
+use Rattle.std.proofs.Common.{◌≡◌, ◌≤◌, ◌<◌, ◌/◌, ◌&&◌, ℕ, nat_lt, length, sym, ◌∙◌, ap, subst, List, Bool, true, false, Result, Ok, Err, is_err}
+use Rattle.std.specs.Prelude.{OnOk}
 use Rattle.std.proofs.lemmas.Bool.{le-ltb, lt-ltb}
 use Rattle.udf_model.specs.Image.{block_of}
 use Rattle.udf_model.specs.Tag.{id_at, is_id}
 use Rattle.udf_volume_model.specs.Size.{has_size}
+
+-- an error has no value to be told of
+pub no_value : {T E : Type 0} (result : Result T E) (P : Type 0) → is_err result ≡ true → OnOk result P
+no_value (Ok value) P err = absurd (cc)
+no_value (Err error) P err = tt
 
 module _ (image : List ℕ) (size bytes : ℕ) (sized : bytes ≡ length image) where
   pub too_short : bytes / size ≤ 256 → has_size image size ≡ false

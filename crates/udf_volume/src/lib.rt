@@ -30,6 +30,6 @@ pub use missing::{LayerStop, Missing, ProfileItem, WorkStop};
 pub use open::open_volume;
 pub use rules::{bad_places, is_good, sequences_agree};
 pub use sequence::{DescriptorList, read_descriptors, read_sequence};
-pub use size::block_size;
+pub use size::{block_size, found_size};
 pub use volume::{MetaMap, Shape, SparingMap, Upper, Volume, Which};
 pub use writable::{open_writable, opened_law};

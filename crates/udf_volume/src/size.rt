@@ -1,5 +1,5 @@
 //! The block size of an image, where it is not given: the one at which an anchor stands in block 256 (ECMA-167 3/8.4.2.1).
-ghost use Rattle.std.specs.Prelude.{◌≡◌, ◌≤◌, length as length_of, IfOk, IfSome, true};
+ghost use Rattle.std.specs.Prelude.{◌≡◌, ◌≤◌, length as length_of, IfOk, IfSome, None, IsErrOf, true};
 ghost use Rattle.std.specs.List.{AllByRecursion, find};
 ghost use Rattle.udf_model.specs.Size.{is_size};
 ghost use Rattle.udf_model.specs.Tag.{id_at as id_of_located, is_id};
@@ -9,10 +9,15 @@ ghost use Rattle.udf_outside.specs.Reads.{OnlyReads, failed};
 ghost use Rattle.udf_outside.specs.declared.bench.Role.TheVariants.{Image};
 ghost use Rattle.udf_volume_model.specs.Size.{has_size, size_of};
 
+use crate::WorkStop;
 use crate::anchor::ANCHOR;
+use std::alloc::Global;
 use udf_field::id_at;
 use udf_model::BLOCK_SIZES;
 use udf_outside::{Bench, Failed, read_block};
+
+/// The greatest block size in bytes.
+const GREATEST: usize = 4096;
 
 /// The first place of an anchor.
 const FIRST_PLACE: u32 = 256;
@@ -95,4 +100,21 @@ pub fn block_size<B: Bench>(
         Some(size) => Ok(Some(size)),
         None => first_size(bench, length, &BLOCK_SIZES, block),
     }
+}
+
+/// The block size that is found in an image, if any. `length` is the image's length in bytes. It takes memory for a block.
+pub fn found_size<B: Bench>(
+    alloc: Global,
+    bench: &mut B,
+    length: u64,
+) -> Result<Option<u32>, WorkStop>
+    requires attached { IsAttached Image (B.files bench.old) }
+    requires sized { length ≡ (B.files bench.old).image.size }
+    ensures found { B.tells → IfOk result (λ found. found ≡ size_of None (bytes_of Image (B.held bench.old))) }
+    ensures size { IfOk result (λ found. IfSome found (λ size. is_size size ≡ true)) }
+    ensures reads { OnlyReads B.files B.held B.faults bench.old bench.new WorkStop.Fault result }
+{
+    let mut block = vec![in alloc; 0u8; GREATEST]?;
+    let found = block_size(bench, length, None, &mut block)?;
+    Ok(found)
 }

@@ -47,12 +47,16 @@ unfolding terminator
 terminator_length size at like room =
     let long = blank_length size like room in retagged_length at 496 (blank size like) (omega arith) ∙ long
 
-pub end_ends : (size at : ℕ) (block like : List ℕ) → 512 ≤ size → 16 ≤ length block → view_of (end_block size at block like) ≡ End
+-- the block that ends a copy is a terminator
+pub end_tagged : (size at : ℕ) (block like : List ℕ) → 512 ≤ size → 16 ≤ length block → IsTagged 8 (end_block size at block like)
 unfolding end_block
-end_ends size at block like large room = by_eight (is_id 8 (whole_id block)) refl where
-  by_eight : (b : Bool) → is_id 8 (whole_id block) ≡ b → view_of (cond b (relocated at block) (terminator size at like)) ≡ End
-  by_eight true e = eight_ends _ (tagged_id 8 _ (moved_tagged at 8 block room (id_tagged 8 block e)))
-  by_eight false e = eight_ends _ (tagged_id 8 _ (terminator_tagged size at like large))
+end_tagged size at block like large room = by_eight (is_id 8 (whole_id block)) refl where
+  by_eight : (b : Bool) → is_id 8 (whole_id block) ≡ b → IsTagged 8 (cond b (relocated at block) (terminator size at like))
+  by_eight true e = moved_tagged at 8 block room (id_tagged 8 block e)
+  by_eight false e = terminator_tagged size at like large
+
+pub end_ends : (size at : ℕ) (block like : List ℕ) → 512 ≤ size → 16 ≤ length block → view_of (end_block size at block like) ≡ End
+end_ends size at block like large room = eight_ends _ (tagged_id 8 _ (end_tagged size at block like large room))
 
 pub copies_below : (size : ℕ) (disk : ℕ → List ℕ) (like : List ℕ) (count from to n : ℕ) → n < to → IsOff n (copies size disk like from to count)
 unfolding copies

@@ -17,6 +17,7 @@ pub mod Frame
 pub mod Within
 pub mod Final
 pub mod Twice
+pub mod Sizes
 pub mod Difference
 pub mod OnePlan
 pub mod Applied

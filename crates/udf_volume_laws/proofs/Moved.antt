@@ -34,13 +34,13 @@ id_tagged id block = by_whole (is_whole block) refl where
   by_whole false w e = absurd (cc)
 
 -- what a listed block tells
-record Tells (block : List ℕ) (descriptor : Descriptor) : Type 0 where
-  tagged : IsTagged descriptor.id block
-  is : descriptor ≡ record { id = descriptor.id; body = drop 16 block }
-  goes_on : eqb descriptor.id 8 ≡ false
-  listed : is_listed descriptor.id ≡ true
+pub record Tells (block : List ℕ) (descriptor : Descriptor) : Type 0 where
+  pub tagged : IsTagged descriptor.id block
+  pub is : descriptor ≡ record { id = descriptor.id; body = drop 16 block }
+  pub goes_on : eqb descriptor.id 8 ≡ false
+  pub listed : is_listed descriptor.id ≡ true
 
-listed_tells : (block : List ℕ) (descriptor : Descriptor) → view_of block ≡ Listed descriptor → Tells block descriptor
+pub listed_tells : (block : List ℕ) (descriptor : Descriptor) → view_of block ≡ Listed descriptor → Tells block descriptor
 unfolding view_of whole_id other_view
 listed_tells block descriptor = by_whole (is_whole block) refl where
   by_zeros : (b : Bool) → cond b End Spoiled ≡ Listed descriptor → Tells block descriptor

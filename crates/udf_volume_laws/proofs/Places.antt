@@ -46,7 +46,7 @@ anchor_good size blocks at block anchor within good =
     let parts = and_parts (is_id 2 (id_at at block)) (same_anchor (named_by block) anchor) good in
     record { tagged = parts.0; within = within; named = anchor_is _ _ parts.1 }
 
-two_tagged : (at : ℕ) (block : List ℕ) → is_id 2 (id_at at block) ≡ true → IsTagged 2 block
+pub two_tagged : (at : ℕ) (block : List ℕ) → is_id 2 (id_at at block) ≡ true → IsTagged 2 block
 unfolding id_at
 two_tagged at block e = by_test (is_whole block && eqb (location block) at) refl e where
   by_test : (b : Bool) → (is_whole block && eqb (location block) at) ≡ b → is_id 2 (cond b (Some (identifier block)) None) ≡ true → IsTagged 2 block

@@ -7,6 +7,7 @@ ghost use Rattle.std.specs.Prelude.{◌≡◌, ◌<◌, ◌≤◌, ℕ, List, []
 ghost use Rattle.udf_model.specs.Image.{block_of, blocks_in};
 ghost use Rattle.udf_volume_model.specs.Sequence.{Descriptor};
 ghost use Rattle.udf_volume_model.specs.Prevailing.{is_of, prevailing, prevailing_index, Prevails};
+ghost use Rattle.udf_volume_model.specs.Size.{found_size};
 ghost use Rattle.udf_volume_model.specs.Kept.{Volume, volume_of};
 ghost use Rattle.udf_volume_model.specs.Areas.{partition_area, covers};
 ghost use Rattle.udf_volume_model.specs.Rules.{findings, rules_hold};
@@ -52,8 +53,9 @@ pub fn edits_law()
     ensures off { (n : ℕ) (edits : List (ℕ × List ℕ)) (block : List ℕ) → is_off n edits ≡ true → look n edits block ≡ block }
 {}
 
-/// The mended image of one whose volume is opened has it opened, breaks no rule, and is the same volume, whose kept anchor stands where it
-/// stood or at an earlier place and whose kept sequence is the main one; mending it again changes nothing. A broken rule makes a difference, and no broken rule none.
+/// The mended image of one whose volume is opened has it opened, breaks no rule, and is the same volume, whose kept anchor
+/// stands where it stood or at an earlier place and whose kept sequence is the main one; mending it again changes nothing. A
+/// broken rule makes a difference, and no broken rule none. The block size that is found in the image is found in the mended one.
 pub fn mend_law()
     ensures same_length { (size : ℕ) (image : List ℕ) → 512 ≤ size → length (volume_mended size image) ≡ length image }
     ensures opened { (size : ℕ) (image : List ℕ) → 512 ≤ size → is_opened size image ≡ true → is_opened size (volume_mended size image) ≡ true }
@@ -65,6 +67,8 @@ pub fn mend_law()
     ensures differs { (size : ℕ) (image : List ℕ) → 512 ≤ size → is_opened size image ≡ true → is_volume_unbroken size image ≡ false
         → 1 ≤ length (difference size image (volume_mended size image)) }
     ensures alike { (size : ℕ) (image : List ℕ) → is_volume_unbroken size image ≡ true → difference size image (volume_mended size image) ≡ [] }
+    ensures size { (image : List ℕ) (size : ℕ) → found_size image ≡ Some size → is_opened size image ≡ true
+        → found_size (volume_mended size image) ≡ Some size }
 {}
 
 /// What the mends write: the blocks of the edits, none of which is a block of the partition, a sealed one or one past the

@@ -1,32 +1,56 @@
 //! A check: `udffsck -c`.
-ghost use Rattle.std.specs.Prelude.{◌≡◌, ◌≤◌, ℕ, List, Some, None, IfSome, IfErr, IsErrOf};
+ghost use Rattle.std.specs.Prelude.{◌≡◌, ◌≤◌, ℕ, List, true, Some, None, IfSome, IfErr, IsErrOf};
 ghost use Rattle.udf_outside.specs.Stops.{bytes_of};
+ghost use Rattle.udf_outside.specs.Files.{IsAttached};
+ghost use Rattle.udf_outside.specs.Reads.{OnlyReads};
 ghost use Rattle.udf_outside.specs.Causes.{Rose};
 ghost use Rattle.udf_outside.specs.declared.bench.Role.TheVariants.{Image};
 ghost use Rattle.udf_outside.specs.declared.bench.Access.TheVariants.{Read};
 ghost use Rattle.udf_volume.specs.declared.missing.Missing.{Missing};
+ghost use Rattle.udf_model.specs.Size.{is_size};
 ghost use Rattle.udf_volume.specs.Refusals.{IsOfVolume, RefusesVolume};
-ghost use Rattle.udf_top.specs.declared.outcome.Cause.{Cause};
+ghost use Rattle.udf_words.specs.declared.cause.Cause.{Cause};
 ghost use Rattle.udf_top.specs.Endings.{HasEnded};
-ghost use Rattle.udf_top.specs.Udffsck.{check_at, by_findings, Examines};
+ghost use Rattle.udf_top.specs.Udffsck.{check_of, by_findings, Examines, ExaminesAt};
 
+use crate::udffsck::sized::size_for;
 use crate::{Findings, Outcome};
 use std::alloc::Global;
 use udf_outside::{Access, Bench, Role};
 use udf_rules::check_volume;
 use udf_volume::{LayerStop, open_volume};
 
-// Reads what a check needs, and answers what breaks the rules.
+// What breaks the rules on the volume of an image, at a block size.
 #[tactic(auto, using(crate::proofs::Outcomes::fits))]
-fn examine<B: Bench>(
+fn examine_at<B: Bench>(
     alloc: Global,
     size: u32,
+    length: u64,
+    bench: &mut B,
+) -> Result<Findings, LayerStop>
+    requires attached { IsAttached Image (B.files bench.old) }
+    requires large { 512 ≤ size }
+    requires sized { length ≡ (B.files bench.old).image.size }
+    ensures answers { B.tells → ExaminesAt size (bytes_of Image (B.held bench.old)) result }
+    ensures refusal { IfErr result RefusesVolume }
+    ensures reads { OnlyReads B.files B.held B.faults bench.old bench.new LayerStop.Fault result }
+{
+    let volume = open_volume(alloc, bench, size, length)?;
+    let findings = check_volume(alloc, bench, &volume)?;
+    Ok(findings)
+}
+
+// Reads what a check needs, and answers what breaks the rules.
+#[tactic(auto, using(udf_model::proofs::Sizes::large))]
+fn examine<B: Bench>(
+    alloc: Global,
+    given: Option<u32>,
     medium: &str,
     bench: &mut B,
 ) -> Result<Findings, LayerStop>
     requires image { (B.files bench.old).image.asked ≡ None }
-    requires large { 512 ≤ size }
-    ensures answers { B.tells → Examines size (bytes_of Image (B.held bench.old)) result }
+    requires given { IfSome given (λ size. is_size size ≡ true) }
+    ensures answers { B.tells → Examines given (bytes_of Image (B.held bench.old)) result }
     ensures refusal { IfErr result RefusesVolume }
     ensures asked { (B.files bench.new).image.asked ≡ Some Read }
     ensures named { IfSome (B.files bench.new).image.name (λ told. told ≡ medium.now) }
@@ -37,9 +61,8 @@ fn examine<B: Bench>(
 {
     bench.attach(Role::Image, medium, Access::Read)?;
     let length = bench.length(Role::Image)?;
-    let volume = open_volume(alloc, bench, size, length)?;
-    let findings = check_volume(alloc, bench, &volume)?;
-    Ok(findings)
+    let size = size_for(alloc, bench, length, given)?;
+    examine_at(alloc, size, length, bench)
 }
 
 fn found(findings: Findings) -> Outcome
@@ -53,11 +76,15 @@ fn found(findings: Findings) -> Outcome
 }
 
 /// The outcome of a check, before its lines are put.
-#[tactic(auto, using(crate::proofs::Outcomes::examined))]
-pub(crate) fn check<B: Bench>(alloc: Global, size: u32, medium: &str, bench: &mut B) -> Outcome
+pub(crate) fn check<B: Bench>(
+    alloc: Global,
+    given: Option<u32>,
+    medium: &str,
+    bench: &mut B,
+) -> Outcome
     requires image { (B.files bench.old).image.asked ≡ None }
-    requires large { 512 ≤ size }
-    ensures answers { B.tells → HasEnded result → result ≡ check_at size (bytes_of Image (B.held bench.old)) }
+    requires given { IfSome given (λ size. is_size size ≡ true) }
+    ensures answers { B.tells → HasEnded result → result ≡ check_of given (bytes_of Image (B.held bench.old)) }
     ensures asked { (B.files bench.new).image.asked ≡ Some Read }
     ensures named { IfSome (B.files bench.new).image.name (λ told. told ≡ medium.now) }
     ensures side { (B.files bench.new).side ≡ (B.files bench.old).side }
@@ -69,7 +96,7 @@ pub(crate) fn check<B: Bench>(alloc: Global, size: u32, medium: &str, bench: &mu
     ensures other { result ≡ Outcome.SameFile → ⊥ }
     ensures refused { (missing : Missing) → result ≡ Outcome.Refused missing → IsOfVolume missing }
 {
-    match examine(alloc, size, medium, bench) {
+    match examine(alloc, given, medium, bench) {
         Ok(findings) => found(findings),
         Err(LayerStop::Missing(missing)) => Outcome::Refused(missing),
         Err(LayerStop::Fault) => Outcome::DeviceFault,

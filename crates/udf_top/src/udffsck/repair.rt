@@ -4,9 +4,9 @@ ghost use Rattle.udf_outside.specs.Stops.{pair_of, IsSettled};
 ghost use Rattle.udf_outside.specs.Causes.{Rose};
 ghost use Rattle.udf_outside.specs.declared.bench.Access.TheVariants.{Write};
 ghost use Rattle.udf_model.specs.Size.{is_size};
-ghost use Rattle.udf_top.specs.declared.outcome.Cause.{Cause};
+ghost use Rattle.udf_words.specs.declared.cause.Cause.{Cause};
 ghost use Rattle.udf_top.specs.Texts.{text_of};
-ghost use Rattle.udf_top.specs.Repairing.{refused_log, repair_of, repair_said};
+ghost use Rattle.udf_top.specs.Repairing.{refused_log, refused_size, repair_of, repair_said};
 ghost use Rattle.udf_top.specs.Headline.{Repairs};
 ghost use Rattle.udf_top.specs.Attaching.{WasAsked};
 ghost use Rattle.udf_top.specs.Steps.{Says};
@@ -16,9 +16,11 @@ use crate::Outcome;
 use crate::say::{say, say_replayed};
 use crate::udffsck::mend::mend;
 use crate::udffsck::settle::{attach_files, settle};
+use crate::udffsck::sized::size_for;
 use std::alloc::Global;
 use udf_outside::{Bench, Sink};
 use udf_redo::RedoStop;
+use udf_volume::LayerStop;
 
 // Tells why a side file is no log of the image.
 fn end_unsettled<O: Sink>(alloc: Global, side: &str, stop: RedoStop, out: &mut O) -> Outcome
@@ -38,11 +40,28 @@ fn end_unsettled<O: Sink>(alloc: Global, side: &str, stop: RedoStop, out: &mut O
     }
 }
 
-/// Repairs an image under the log in a side file, which has another name.
+// Tells why an image has no block size.
+fn end_unsized<O: Sink>(alloc: Global, medium: &str, stop: LayerStop, out: &mut O) -> Outcome
+    ensures ended { HasEnded result → result ≡ refused_size stop }
+    ensures said { (before : List ℕ) → O.told out.old ≡ Some before → Says (O.told out.new) before (text_of medium.now (refused_size stop)) result }
+    ensures device { result ≡ Outcome.DeviceFault → stop ≡ LayerStop.Fault }
+    ensures told { stop ≡ LayerStop.Fault → result ≡ Outcome.DeviceFault }
+    ensures out { result ≡ Outcome.OutFault → Rose (O.faults out.old) (O.faults out.new) }
+    ensures later { O.faults out.old ≤ O.faults out.new }
+{
+    match stop {
+        LayerStop::Missing(missing) => say(alloc, medium, Outcome::Refused(missing), out),
+        LayerStop::Fault => Outcome::DeviceFault,
+        LayerStop::Memory => Outcome::Memory,
+    }
+}
+
+/// Repairs an image under the log in a side file, which has another name. A block size that is not given is found in the image
+/// once an open log was replayed.
 #[tactic(auto, using(udf_model::proofs::Sizes::large))]
 pub(crate) fn repair<B: Bench, O: Sink>(
     alloc: Global,
-    size: u32,
+    given: Option<u32>,
     medium: &str,
     side: &str,
     bench: &mut B,
@@ -50,12 +69,12 @@ pub(crate) fn repair<B: Bench, O: Sink>(
 ) -> Outcome
     requires image { (B.files bench.old).image.asked ≡ None }
     requires side { (B.files bench.old).side.asked ≡ None }
-    requires size { is_size size ≡ true }
+    requires given { IfSome given (λ size. is_size size ≡ true) }
     requires settled { B.tells → IsSettled (B.held bench.old) }
-    ensures outcome { B.tells → HasEnded result → result ≡ repair_of (Some size) (pair_of (B.held bench.old)) }
+    ensures outcome { B.tells → HasEnded result → result ≡ repair_of given (pair_of (B.held bench.old)) }
     ensures said { B.tells → (before : List ℕ) → O.told out.old ≡ Some before
-        → Says (O.told out.new) before (repair_said (Some size) medium.now side.now (pair_of (B.held bench.old))) result }
-    ensures repairs { B.tells → Repairs (Some size) (B.held bench.old) (B.held bench.new) result }
+        → Says (O.told out.new) before (repair_said given medium.now side.now (pair_of (B.held bench.old))) result }
+    ensures repairs { B.tells → Repairs given (B.held bench.old) (B.held bench.new) result }
     ensures device { result ≡ Outcome.DeviceFault → Rose (B.faults bench.old) (B.faults bench.new) }
     ensures out { result ≡ Outcome.OutFault → Rose (O.faults out.old) (O.faults out.new) }
     ensures usage { (cause : Cause) → result ≡ Outcome.Usage cause → ⊥ }
@@ -74,5 +93,8 @@ pub(crate) fn repair<B: Bench, O: Sink>(
     if let Err(stop) = say_replayed(alloc, medium, replayed, out) {
         return stop.outcome();
     }
-    mend(alloc, size, medium, lengths.image, replayed, bench, out)
+    match size_for(alloc, bench, lengths.image, given) {
+        Ok(size) => mend(alloc, size, medium, lengths.image, replayed, bench, out),
+        Err(stop) => end_unsized(alloc, medium, stop, out),
+    }
 }

@@ -5,6 +5,7 @@ use Rattle.udf_volume_model.specs.Opened.{volume_mended}
 use Rattle.udf_volume_model.specs.Same.{IsSameVolume}
 use Rattle.udf_volume_laws.proofs.Final.{mended_image}
 use Rattle.udf_volume_laws.proofs.Twice.{stays, mended_twice}
+use Rattle.udf_volume_laws.proofs.Sizes.{found_stays}
 use Rattle.udf_volume_laws.proofs.Difference.{length_kept, broken_differs, no_broken_rule}
 use Rattle.udf_volume_laws.proofs.mend_law.Goals as goal
 
@@ -34,3 +35,6 @@ returns-clause-differs c = broken_differs
 
 pub returns-clause-alike : goal.returns-clause-alike
 returns-clause-alike c = no_broken_rule
+
+pub returns-clause-size : goal.returns-clause-size
+returns-clause-size c = found_stays

@@ -1,4 +1,4 @@
-use Rattle.udf_repair_model.proofs.Repair.{law, still_accepted, mend_twice, mend_stays, mend_rewrites, mend_differs, mend_alike}
+use Rattle.udf_repair_model.proofs.Repair.{law, still_accepted, mend_twice, mend_stays, mend_rewrites, mend_differs, mend_alike, size_kept}
 use Rattle.udf_repair_model.proofs.laws.repair_law.Goals as goal
 
 pub returns-clause-accepted : goal.returns-clause-accepted
@@ -21,3 +21,6 @@ returns-clause-differs c = mend_differs
 
 pub returns-clause-alike : goal.returns-clause-alike
 returns-clause-alike c = mend_alike
+
+pub returns-clause-size : goal.returns-clause-size
+returns-clause-size c = size_kept

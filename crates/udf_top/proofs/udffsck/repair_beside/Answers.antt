@@ -13,5 +13,5 @@ returns-in_default-clause-repairs g c tells repair is =
 pub returns-clause-said : goal.returns-clause-said
 returns-clause-said g c tells before told =
     says_same _ before _ _ c.repair.result
-    (said_as _ (Some c.args.size) c.args.medium.now _ c.as_str-side.result.now _ c.in-Ok.ensures c.as_str-side.ensures.value (sym c.if-eq.ensures))
+    (said_as _ c.args.given c.args.medium.now _ c.as_str-side.result.now _ c.in-Ok.ensures c.as_str-side.ensures.value (sym c.if-eq.ensures))
     (c.repair.ensures.said tells before told)
