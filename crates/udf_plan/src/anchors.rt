@@ -2,14 +2,12 @@
 //! relocated. It reads those places.
 ghost use Rattle.std.specs.Prelude.{◌≡◌, ◌+◌, ◌*◌, ◌≤◌, ◌<◌, ◌++◌, ◌∷◌, ◌^◌, [], length, OnOk, IsErrOf, true};
 ghost use Rattle.std.specs.List.{list_all, All};
-ghost use Rattle.udf_model.specs.Image.{block_of};
-ghost use Rattle.udf_outside.specs.Files.{IsAttached};
-ghost use Rattle.udf_outside.specs.Stops.{bytes_of};
 ghost use Rattle.udf_outside.specs.Reads.{OnlyReads};
-ghost use Rattle.udf_outside.specs.declared.bench.Role.TheVariants.{Image};
+ghost use Rattle.udf_outside.specs.Sectors.{disk_of};
 ghost use Rattle.udf_volume.specs.Areas.{anchor_stated};
 ghost use Rattle.udf_blocks.specs.Planned.{are_below};
 ghost use Rattle.udf_plan.specs.Changes.{changes, anchor_after, KeepsTo, AscendFrom, to_mend};
+ghost use Rattle.udf_volume.specs.Over.{IsOver};
 
 use crate::difference::add_difference;
 use crate::{Plan, WorkStop};
@@ -42,10 +40,7 @@ fn add_anchor<B: Bench>(
     block: &mut [u8],
     made: &mut [u8],
 ) -> Result<(), WorkStop>
-    requires attached { IsAttached Image (B.files bench.old) }
-    requires within { volume.now.blocks * volume.now.size ≤ (B.files bench.old).image.size }
-    requires large { 512 ≤ volume.now.size }
-    requires few { volume.now.blocks < 2 ^ 32 }
+    requires over { IsOver volume.now (B.files bench.old) }
     requires inside { place < volume.now.blocks }
     requires sized { plan.old.size ≡ volume.now.size }
     requires above { are_below place plan.old.blocks ≡ true }
@@ -53,8 +48,8 @@ fn add_anchor<B: Bench>(
     requires block_room { length block.old ≡ volume.now.size }
     requires made_room { length made.old ≡ volume.now.size }
     ensures added { B.tells → OnOk result (plan.new.blocks ≡ plan.old.blocks
-        ++ changes (block_of volume.now.size (bytes_of Image (B.held bench.old)))
-        (anchor_after (block_of volume.now.size (bytes_of Image (B.held bench.old))) (anchor_stated volume.now) kept.now) (place ∷ [])) }
+        ++ changes (disk_of volume.now.size (B.held bench.old))
+        (anchor_after (disk_of volume.now.size (B.held bench.old)) (anchor_stated volume.now) kept.now) (place ∷ [])) }
     ensures keeps { OnOk result (KeepsTo (place ∷ []) plan.old.blocks plan.new.blocks) }
     ensures sized { OnOk result (plan.new.size ≡ plan.old.size) }
     ensures reads { OnlyReads B.files B.held B.faults bench.old bench.new WorkStop.Fault result }
@@ -79,10 +74,7 @@ pub(crate) fn add_anchors<B: Bench>(
     block: &mut [u8],
     made: &mut [u8],
 ) -> Result<(), WorkStop>
-    requires attached { IsAttached Image (B.files bench.old) }
-    requires within { volume.now.blocks * volume.now.size ≤ (B.files bench.old).image.size }
-    requires large { 512 ≤ volume.now.size }
-    requires few { volume.now.blocks < 2 ^ 32 }
+    requires over { IsOver volume.now (B.files bench.old) }
     requires inside { All (λ at. at < volume.now.blocks) places.now }
     requires ascend { AscendFrom 0 places.now }
     requires above { list_all (λ place. are_below place plan.old.blocks) places.now ≡ true }
@@ -91,8 +83,8 @@ pub(crate) fn add_anchors<B: Bench>(
     requires block_room { length block.old ≡ volume.now.size }
     requires made_room { length made.old ≡ volume.now.size }
     ensures added { B.tells → OnOk result (plan.new.blocks ≡ plan.old.blocks
-        ++ changes (block_of volume.now.size (bytes_of Image (B.held bench.old)))
-        (anchor_after (block_of volume.now.size (bytes_of Image (B.held bench.old))) (anchor_stated volume.now) kept.now) places.now) }
+        ++ changes (disk_of volume.now.size (B.held bench.old))
+        (anchor_after (disk_of volume.now.size (B.held bench.old)) (anchor_stated volume.now) kept.now) places.now) }
     ensures keeps { OnOk result (KeepsTo places.now plan.old.blocks plan.new.blocks) }
     ensures sized { OnOk result (plan.new.size ≡ plan.old.size) }
     ensures reads { OnlyReads B.files B.held B.faults bench.old bench.new WorkStop.Fault result }

@@ -3,18 +3,17 @@
 ghost use Rattle.std.specs.Prelude.{◌≡◌, ◌+◌, ◌*◌, ◌≤◌, ◌<◌, ◌++◌, ◌∷◌, ◌^◌, [], length, replicate, OnOk, IfOk, IfSome, IsErrOf, true, None};
 ghost use Rattle.std.specs.List.{range_with_len};
 ghost use Rattle.std.specs.Option.{ForSome};
-ghost use Rattle.udf_model.specs.Image.{block_of};
 ghost use Rattle.udf_model.specs.Tag.{relocated, is_id, whole_id as whole_in};
-ghost use Rattle.udf_outside.specs.Files.{IsAttached};
 ghost use Rattle.udf_outside.specs.Stops.{bytes_of};
 ghost use Rattle.udf_outside.specs.Reads.{OnlyReads};
+ghost use Rattle.udf_outside.specs.Sectors.{disk_of};
 ghost use Rattle.udf_outside.specs.declared.bench.Role.TheVariants.{Image};
 ghost use Rattle.udf_volume_model.specs.Mended.{end_block};
-ghost use Rattle.udf_volume.specs.Opened.{IsBounded};
 ghost use Rattle.udf_volume.specs.Spans.{kept_span, other_span};
 ghost use Rattle.udf_blocks.specs.Planned.{are_below};
 ghost use Rattle.udf_plan.specs.Changes.{changes, copy_after, block_at, KeepsTo};
 ghost use Rattle.udf_plan.specs.Stated.{kept_list, logical_sector, copied, ended, sequence_changes};
+ghost use Rattle.udf_volume.specs.Over.{IsOver};
 
 use crate::difference::add_difference;
 use crate::terminator::{TERMINATING, write_terminator};
@@ -39,10 +38,7 @@ fn add_copy<B: Bench>(
     block: &mut [u8],
     made: &mut [u8],
 ) -> Result<(), WorkStop>
-    requires attached { IsAttached Image (B.files bench.old) }
-    requires within { volume.now.blocks * volume.now.size ≤ (B.files bench.old).image.size }
-    requires large { 512 ≤ volume.now.size }
-    requires few { volume.now.blocks < 2 ^ 32 }
+    requires over { IsOver volume.now (B.files bench.old) }
     requires from_inside { from < volume.now.blocks }
     requires to_inside { to < volume.now.blocks }
     requires sized { plan.old.size ≡ volume.now.size }
@@ -50,8 +46,8 @@ fn add_copy<B: Bench>(
     requires block_room { length block.old ≡ volume.now.size }
     requires made_room { length made.old ≡ volume.now.size }
     ensures added { B.tells → OnOk result (plan.new.blocks ≡ plan.old.blocks
-        ++ changes (block_of volume.now.size (bytes_of Image (B.held bench.old)))
-        (λ n. relocated n (block_of volume.now.size (bytes_of Image (B.held bench.old)) from)) (to ∷ [])) }
+        ++ changes (disk_of volume.now.size (B.held bench.old))
+        (λ n. relocated n (disk_of volume.now.size (B.held bench.old) from)) (to ∷ [])) }
     ensures keeps { OnOk result (KeepsTo (to ∷ []) plan.old.blocks plan.new.blocks) }
     ensures sized { OnOk result (plan.new.size ≡ plan.old.size) }
     ensures reads { OnlyReads B.files B.held B.faults bench.old bench.new WorkStop.Fault result }
@@ -73,10 +69,7 @@ fn add_copies<B: Bench>(
     block: &mut [u8],
     made: &mut [u8],
 ) -> Result<(), WorkStop>
-    requires attached { IsAttached Image (B.files bench.old) }
-    requires within { volume.now.blocks * volume.now.size ≤ (B.files bench.old).image.size }
-    requires large { 512 ≤ volume.now.size }
-    requires few { volume.now.blocks < 2 ^ 32 }
+    requires over { IsOver volume.now (B.files bench.old) }
     requires from_inside { from + volume.now.count < volume.now.blocks }
     requires to_inside { to + volume.now.count < volume.now.blocks }
     requires sized { plan.old.size ≡ volume.now.size }
@@ -84,8 +77,8 @@ fn add_copies<B: Bench>(
     requires block_room { length block.old ≡ volume.now.size }
     requires made_room { length made.old ≡ volume.now.size }
     ensures added { B.tells → OnOk result (plan.new.blocks ≡ plan.old.blocks
-        ++ changes (block_of volume.now.size (bytes_of Image (B.held bench.old)))
-        (copy_after (block_of volume.now.size (bytes_of Image (B.held bench.old))) from to) (range_with_len to volume.now.count)) }
+        ++ changes (disk_of volume.now.size (B.held bench.old))
+        (copy_after (disk_of volume.now.size (B.held bench.old)) from to) (range_with_len to volume.now.count)) }
     ensures keeps { OnOk result (KeepsTo (range_with_len to volume.now.count) plan.old.blocks plan.new.blocks) }
     ensures sized { OnOk result (plan.new.size ≡ plan.old.size) }
     ensures reads { OnlyReads B.files B.held B.faults bench.old bench.new WorkStop.Fault result }
@@ -103,13 +96,11 @@ fn read_or_blank<B: Bench>(
     sector: Option<u32>,
     block: &mut [u8],
 ) -> Result<(), WorkStop>
-    requires attached { IsAttached Image (B.files bench.old) }
-    requires within { volume.now.blocks * volume.now.size ≤ (B.files bench.old).image.size }
-    requires few { volume.now.blocks < 2 ^ 32 }
+    requires over { IsOver volume.now (B.files bench.old) }
     requires inside { ForSome sector (λ n. n < volume.now.blocks) }
     requires room { length block.old ≡ volume.now.size }
     ensures block { B.tells → OnOk result (IfSome sector (λ n. block.new
-        ≡ block_of volume.now.size (bytes_of Image (B.held bench.old)) n)) }
+        ≡ disk_of volume.now.size (B.held bench.old) n)) }
     ensures blank { OnOk result (sector ≡ None → block.new ≡ replicate volume.now.size 0) }
     ensures reads { OnlyReads B.files B.held B.faults bench.old bench.new WorkStop.Fault result }
 {
@@ -142,17 +133,14 @@ fn make_end<B: Bench>(
     block: &mut [u8],
     made: &mut [u8],
 ) -> Result<(), WorkStop>
-    requires attached { IsAttached Image (B.files bench.old) }
-    requires within { volume.now.blocks * volume.now.size ≤ (B.files bench.old).image.size }
-    requires large { 512 ≤ volume.now.size }
-    requires few { volume.now.blocks < 2 ^ 32 }
+    requires over { IsOver volume.now (B.files bench.old) }
     requires source_inside { source < volume.now.blocks }
     requires logical_inside { ForSome logical (λ n. n < volume.now.blocks) }
     requires block_room { length block.old ≡ volume.now.size }
     requires made_room { length made.old ≡ volume.now.size }
     ensures made { B.tells → OnOk result (made.new ≡ end_block volume.now.size target
-        (block_of volume.now.size (bytes_of Image (B.held bench.old)) source)
-        (block_at (block_of volume.now.size (bytes_of Image (B.held bench.old))) logical)) }
+        (disk_of volume.now.size (B.held bench.old) source)
+        (block_at (disk_of volume.now.size (B.held bench.old)) logical)) }
     ensures reads { OnlyReads B.files B.held B.faults bench.old bench.new WorkStop.Fault result }
 {
     read_block(bench, volume.size, source, made)?;
@@ -176,10 +164,7 @@ fn add_end<B: Bench>(
     block: &mut [u8],
     made: &mut [u8],
 ) -> Result<(), WorkStop>
-    requires attached { IsAttached Image (B.files bench.old) }
-    requires within { volume.now.blocks * volume.now.size ≤ (B.files bench.old).image.size }
-    requires large { 512 ≤ volume.now.size }
-    requires few { volume.now.blocks < 2 ^ 32 }
+    requires over { IsOver volume.now (B.files bench.old) }
     requires source_inside { source < volume.now.blocks }
     requires target_inside { target < volume.now.blocks }
     requires logical_inside { ForSome logical (λ n. n < volume.now.blocks) }
@@ -188,9 +173,9 @@ fn add_end<B: Bench>(
     requires block_room { length block.old ≡ volume.now.size }
     requires made_room { length made.old ≡ volume.now.size }
     ensures added { B.tells → OnOk result (plan.new.blocks ≡ plan.old.blocks
-        ++ changes (block_of volume.now.size (bytes_of Image (B.held bench.old)))
-        (λ n. end_block volume.now.size n (block_of volume.now.size (bytes_of Image (B.held bench.old)) source)
-        (block_at (block_of volume.now.size (bytes_of Image (B.held bench.old))) logical)) (target ∷ [])) }
+        ++ changes (disk_of volume.now.size (B.held bench.old))
+        (λ n. end_block volume.now.size n (disk_of volume.now.size (B.held bench.old) source)
+        (block_at (disk_of volume.now.size (B.held bench.old)) logical)) (target ∷ [])) }
     ensures keeps { OnOk result (KeepsTo (target ∷ []) plan.old.blocks plan.new.blocks) }
     ensures sized { OnOk result (plan.new.size ≡ plan.old.size) }
     ensures reads { OnlyReads B.files B.held B.faults bench.old bench.new WorkStop.Fault result }
@@ -218,10 +203,7 @@ fn read_kept<B: Bench>(
     volume: &Volume,
     block: &mut [u8],
 ) -> Result<Vec<Descriptor>, WorkStop>
-    requires attached { IsAttached Image (B.files bench.old) }
-    requires within { volume.now.blocks * volume.now.size ≤ (B.files bench.old).image.size }
-    requires large { 512 ≤ volume.now.size }
-    requires bounded { IsBounded volume.now.size volume.now.blocks volume.now }
+    requires over { IsOver volume.now (B.files bench.old) }
     requires room { length block.old ≡ volume.now.size }
     ensures list { B.tells → IfOk result (λ kept. kept.items ≡ kept_list volume.now (bytes_of Image (B.held bench.old))) }
     ensures inside { IfOk result (λ kept. (kept_span volume.now).start + length kept.items ≤ volume.now.blocks) }
@@ -248,10 +230,7 @@ fn add_copied<B: Bench>(
     block: &mut [u8],
     made: &mut [u8],
 ) -> Result<(), WorkStop>
-    requires attached { IsAttached Image (B.files bench.old) }
-    requires within { volume.now.blocks * volume.now.size ≤ (B.files bench.old).image.size }
-    requires large { 512 ≤ volume.now.size }
-    requires bounded { IsBounded volume.now.size volume.now.blocks volume.now }
+    requires over { IsOver volume.now (B.files bench.old) }
     requires logical_inside { ForSome logical (λ n. n < volume.now.blocks) }
     requires sized { plan.old.size ≡ volume.now.size }
     requires above { are_below (other_span volume.now).start plan.old.blocks ≡ true }
@@ -288,10 +267,7 @@ pub(crate) fn add_sequence<B: Bench>(
     block: &mut [u8],
     made: &mut [u8],
 ) -> Result<(), WorkStop>
-    requires attached { IsAttached Image (B.files bench.old) }
-    requires within { volume.now.blocks * volume.now.size ≤ (B.files bench.old).image.size }
-    requires large { 512 ≤ volume.now.size }
-    requires bounded { IsBounded volume.now.size volume.now.blocks volume.now }
+    requires over { IsOver volume.now (B.files bench.old) }
     requires sized { plan.old.size ≡ volume.now.size }
     requires above { are_below (other_span volume.now).start plan.old.blocks ≡ true }
     requires block_room { length block.old ≡ volume.now.size }

@@ -2,19 +2,19 @@
 ghost use Rattle.std.specs.Prelude.{◌≡◌, ◌*◌, ◌≤◌, ◌<◌, length, filter, nat_lt, nat_le, OnOk, IfOk, IsErrOf, Ok, true, [], not};
 ghost use Rattle.std.specs.List.{All};
 ghost use Rattle.udf_model.specs.Image.{block_of};
-ghost use Rattle.udf_outside.specs.Files.{IsAttached};
 ghost use Rattle.udf_outside.specs.Stops.{bytes_of};
 ghost use Rattle.udf_outside.specs.Reads.{OnlyReads};
 ghost use Rattle.udf_outside.specs.declared.bench.Role.TheVariants.{Image};
 ghost use Rattle.udf_volume_model.specs.Areas.{covers};
 ghost use Rattle.udf_volume_model.specs.Opened.{is_opened, volume_mended, plan_of};
 ghost use Rattle.udf_volume.specs.Laid.{IsLaidOut};
-ghost use Rattle.udf_volume.specs.Opened.{opened, IsBounded};
+ghost use Rattle.udf_volume.specs.Opened.{opened};
 ghost use Rattle.udf_blocks.specs.Planned.{are_at, are_below};
 ghost use Rattle.udf_plan.specs.Changes.{to_mend};
 ghost use Rattle.udf_blocks.specs.PlanFor.{sealed_stated, IsPlanFor};
 ghost use Rattle.udf_volume.specs.Eligible.{eligible_stated, bad_stated};
 ghost use Rattle.udf_plan.specs.Stated.{all_changes, AreRuled};
+ghost use Rattle.udf_volume.specs.Over.{IsOver};
 
 use crate::anchors::{add_anchors, places_to_mend};
 use crate::sequence::add_sequence;
@@ -50,9 +50,7 @@ fn wanted_places<B: Bench>(
     volume: &Volume,
     block: &mut [u8],
 ) -> Result<Vec<u32>, WorkStop>
-    requires attached { IsAttached Image (B.files bench.old) }
-    requires within { volume.now.blocks * volume.now.size ≤ (B.files bench.old).image.size }
-    requires large { 512 ≤ volume.now.size }
+    requires over { IsOver volume.now (B.files bench.old) }
     requires room { length block.old ≡ volume.now.size }
     ensures wanted { B.tells → IfOk result (λ v. v.items
         ≡ to_mend (eligible_stated volume.now) (bad_stated volume.now (bytes_of Image (B.held bench.old)))) }
@@ -75,10 +73,7 @@ fn fill<B: Bench>(
     block: &mut [u8],
     made: &mut [u8],
 ) -> Result<(), WorkStop>
-    requires attached { IsAttached Image (B.files bench.old) }
-    requires within { volume.now.blocks * volume.now.size ≤ (B.files bench.old).image.size }
-    requires large { 512 ≤ volume.now.size }
-    requires bounded { IsBounded volume.now.size volume.now.blocks volume.now }
+    requires over { IsOver volume.now (B.files bench.old) }
     requires laid { IsLaidOut volume.now }
     requires ruled { AreRuled volume.now places.now }
     requires blank { plan.old ≡ record { size = volume.now.size; blocks = [] } }
@@ -106,10 +101,7 @@ pub fn plan_volume<B: Bench>(
     bench: &mut B,
     volume: &Volume,
 ) -> Result<Plan, WorkStop>
-    requires attached { IsAttached Image (B.files bench.old) }
-    requires within { volume.now.blocks * volume.now.size ≤ (B.files bench.old).image.size }
-    requires large { 512 ≤ volume.now.size }
-    requires bounded { IsBounded volume.now.size volume.now.blocks volume.now }
+    requires over { IsOver volume.now (B.files bench.old) }
     requires laid { IsLaidOut volume.now }
     ensures plan { B.tells → opened volume.now.size (bytes_of Image (B.held bench.old)) ≡ Ok volume.now
         → IfOk result (λ plan. plan.blocks ≡ plan_of volume.now.size (bytes_of Image (B.held bench.old))

@@ -8,17 +8,17 @@
 //! Mends: each of them becomes the kept anchor's block, relocated (`udf_plan`).
 //! Relies on: the kept anchor and the areas, which lie apart from each other.
 ghost use Rattle.std.specs.Prelude.{◌≡◌, ◌*◌, ◌≤◌, ◌<◌, ◌^◌, ◌++◌, length, map, IfOk, OnOk, IsErrOf, Ok};
-ghost use Rattle.udf_outside.specs.Files.{IsAttached};
 ghost use Rattle.udf_outside.specs.Stops.{bytes_of};
 ghost use Rattle.udf_outside.specs.Reads.{OnlyReads};
 ghost use Rattle.udf_outside.specs.declared.bench.Role.TheVariants.{Image};
-ghost use Rattle.udf_volume.specs.Opened.{opened, IsBounded};
+ghost use Rattle.udf_volume.specs.Opened.{opened};
 ghost use Rattle.udf_volume_model.specs.Kept.{whole_by};
 ghost use Rattle.udf_volume_model.specs.Rules.{agrees};
 ghost use Rattle.udf_volume.specs.Led.{listed_in};
 ghost use Rattle.udf_volume.specs.Spans.{other_span, limit_stated};
 ghost use Rattle.udf_rules.specs.Found.{findings_in, anchor_report, sequence_report};
 ghost use Rattle.udf_rules.specs.Reported.{anchors_reported, sequences_reported};
+ghost use Rattle.udf_volume.specs.Over.{IsOver};
 
 use crate::{Finding, Findings, Place};
 use std::alloc::{AllocError, Global};
@@ -60,10 +60,8 @@ pub(crate) fn check_anchors<B: Bench>(
     block: &mut [u8],
     findings: &mut Findings,
 ) -> Result<(), WorkStop>
-    requires attached { IsAttached Image (B.files bench.old) }
-    requires within { volume.now.blocks * volume.now.size ≤ (B.files bench.old).image.size }
+    requires over { IsOver volume.now (B.files bench.old) }
     requires room { length block.old ≡ volume.now.size }
-    requires large { 512 ≤ volume.now.size }
     ensures found { B.tells → OnOk result (findings.new ≡ findings.old
         ++ anchors_reported volume.now (bytes_of Image (B.held bench.old))) }
     ensures reads { OnlyReads B.files B.held B.faults bench.old bench.new WorkStop.Fault result }

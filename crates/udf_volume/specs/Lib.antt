@@ -5,6 +5,7 @@ pub mod Best
 pub mod Leads
 pub mod Led
 pub mod Opened
+pub mod Over
 pub mod Areas
 pub mod Spans
 pub mod Laid

@@ -1,15 +1,13 @@
 //! The kept anchor and the kept sequence: the first place with a whole anchor that leads to a whole sequence.
 ghost use Rattle.std.specs.Prelude.{◌≡◌, ◌+◌, ◌*◌, ◌≤◌, ◌<◌, ◌^◌, ℕ, length, IfOk, IfSome, option_map, true};
 ghost use Rattle.std.specs.List.{AllByRecursion};
-ghost use Rattle.udf_model.specs.Image.{block_of};
-ghost use Rattle.udf_outside.specs.Files.{IsAttached};
-ghost use Rattle.udf_outside.specs.Stops.{bytes_of};
 ghost use Rattle.udf_outside.specs.Reads.{OnlyReads};
-ghost use Rattle.udf_outside.specs.declared.bench.Role.TheVariants.{Image};
+ghost use Rattle.udf_outside.specs.Sectors.{disk_of};
 ghost use Rattle.udf_volume_model.specs.Anchor.{is_extent, names_extents};
 ghost use Rattle.udf_volume_model.specs.Kept.{has_id, is_complete, whole_by, sequence_at, volume_at, volume_in, has_anchor};
 ghost use Rattle.udf_volume.specs.Seen.{extent_seen, anchor_seen};
 ghost use Rattle.udf_volume.specs.Led.{listed_in, led_seen, IsLed, Finds, FindsLawful, at_least_unled_of};
+ghost use Rattle.udf_volume.specs.Over.{HasBlocks};
 
 use crate::anchor::{Anchor, anchor_of, blocks_of};
 use crate::descriptor::{LOGICAL_VOLUME, PARTITION, PRIMARY};
@@ -94,13 +92,11 @@ fn whole_sequence<B: Bench>(
     limit: u32,
     block: &mut [u8],
 ) -> Result<Option<Vec<Descriptor>>, WorkStop>
-    requires attached { IsAttached Image (B.files bench.old) }
-    requires within { blocks * size ≤ (B.files bench.old).image.size }
+    requires image { HasBlocks size blocks (B.files bench.old) }
     requires room { length block.old ≡ size }
-    requires large { 512 ≤ size }
     requires extent { is_extent size blocks (extent_seen span) ≡ true }
     ensures sequence { B.tells → IfOk result (λ found. option_map (λ v. v.items) found
-        ≡ sequence_at size (block_of size (bytes_of Image (B.held bench.old))) limit (extent_seen span)) }
+        ≡ sequence_at size (disk_of size (B.held bench.old)) limit (extent_seen span)) }
     ensures complete { IfOk result (λ found. IfSome found (λ v. is_complete limit v.items ≡ true)) }
     ensures reads { OnlyReads B.files B.held B.faults bench.old bench.new WorkStop.Fault result }
 {
@@ -120,14 +116,12 @@ fn led_by<B: Bench>(
     anchor: Anchor,
     block: &mut [u8],
 ) -> Result<Option<Led>, WorkStop>
-    requires attached { IsAttached Image (B.files bench.old) }
-    requires within { blocks * size ≤ (B.files bench.old).image.size }
+    requires image { HasBlocks size blocks (B.files bench.old) }
     requires room { length block.old ≡ size }
-    requires large { 512 ≤ size }
     requires place { place < blocks }
     requires extents { names_extents size blocks (anchor_seen anchor) ≡ true }
     ensures led { B.tells → IfOk result (λ led. option_map led_seen led
-        ≡ volume_at size (block_of size (bytes_of Image (B.held bench.old))) place (Some (anchor_seen anchor))) }
+        ≡ volume_at size (disk_of size (B.held bench.old)) place (Some (anchor_seen anchor))) }
     ensures lawful { IfOk result (λ led. IfSome led (IsLed size blocks)) }
     ensures reads { OnlyReads B.files B.held B.faults bench.old bench.new WorkStop.Fault result }
 {
@@ -181,14 +175,12 @@ pub(crate) fn search<B: Bench>(
     places: &[u32],
     block: &mut [u8],
 ) -> Result<Found, WorkStop>
-    requires attached { IsAttached Image (B.files bench.old) }
-    requires within { blocks * size ≤ (B.files bench.old).image.size }
+    requires image { HasBlocks size blocks (B.files bench.old) }
     requires room { length block.old ≡ size }
-    requires large { 512 ≤ size }
     requires inside { AllByRecursion (λ at. at < blocks) places.now }
     ensures found { B.tells → IfOk result (Finds
-        (volume_in size blocks (block_of size (bytes_of Image (B.held bench.old))) places.now)
-        (has_anchor size blocks (block_of size (bytes_of Image (B.held bench.old))) places.now)) }
+        (volume_in size blocks (disk_of size (B.held bench.old)) places.now)
+        (has_anchor size blocks (disk_of size (B.held bench.old)) places.now)) }
     ensures lawful { IfOk result (FindsLawful size blocks) }
     ensures reads { OnlyReads B.files B.held B.faults bench.old bench.new WorkStop.Fault result }
 {

@@ -1,9 +1,9 @@
 //! A volume from an image: the first refusal that applies, or what the prevailing descriptors state.
 ghost use Rattle.std.specs.Prelude.{◌≡◌, ◌+◌, ◌*◌, ◌/◌, ◌≤◌, ◌<◌, ◌^◌, ℕ, length as length_of, IfOk, IfErr, IfSome, if◌then◌else◌, Some, None, slice_index, slice_get, take, drop};
-ghost use Rattle.udf_model.specs.Image.{block_of};
 ghost use Rattle.udf_outside.specs.Files.{IsAttached};
 ghost use Rattle.udf_outside.specs.Stops.{bytes_of};
 ghost use Rattle.udf_outside.specs.Reads.{OnlyReads};
+ghost use Rattle.udf_outside.specs.Sectors.{disk_of};
 ghost use Rattle.udf_outside.specs.declared.bench.Role.TheVariants.{Image};
 ghost use Rattle.udf_volume_model.specs.Kept.{kept};
 ghost use Rattle.udf_volume_model.specs.Sequence as model;
@@ -14,6 +14,7 @@ ghost use Rattle.udf_volume.specs.Leads.{IsLeading};
 ghost use Rattle.udf_volume.specs.Led.{IsLed, led_seen};
 ghost use Rattle.udf_volume.specs.Refusals.{RefusesVolume};
 ghost use Rattle.udf_volume.specs.Opened.{volume_by, stated_in, sector_in, bitmap_in, is_guarded, accepted, opened, Answers, IsBounded};
+ghost use Rattle.udf_volume.specs.Over.{HasBlocks};
 
 use crate::anchor::places_of;
 use crate::descriptor::{IMPLEMENTATION_USE, TAG};
@@ -171,13 +172,11 @@ fn accept<B: Bench>(
     led: &Led,
     block: &mut [u8],
 ) -> Result<Volume, LayerStop>
-    requires attached { IsAttached Image (B.files bench.old) }
-    requires within { blocks * size ≤ (B.files bench.old).image.size }
+    requires image { HasBlocks size blocks (B.files bench.old) }
     requires room { length_of block.old ≡ size }
-    requires large { 512 ≤ size }
     requires led { IsLed size blocks led.now }
     ensures answers { B.tells → Answers
-        (accepted size blocks (block_of size (bytes_of Image (B.held bench.old))) (led_seen led.now)) result }
+        (accepted size blocks (disk_of size (B.held bench.old)) (led_seen led.now)) result }
     ensures refusal { IfErr result RefusesVolume }
     ensures bounds { IfOk result (IsBounded size blocks) }
     ensures areas { IfOk result IsLaidOut }

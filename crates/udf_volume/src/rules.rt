@@ -5,15 +5,13 @@ ghost use Rattle.std.specs.Prelude.{◌≡◌, ◌*◌, ◌≤◌, ◌<◌, leng
 ghost use Rattle.std.specs.List.{All, list_all};
 ghost use Rattle.std.specs.Str.{bytes_eq};
 ghost use Rattle.std.specs.Option.{option_copied};
-ghost use Rattle.udf_model.specs.Image.{block_of};
-ghost use Rattle.udf_outside.specs.Files.{IsAttached};
-ghost use Rattle.udf_outside.specs.Stops.{bytes_of};
 ghost use Rattle.udf_outside.specs.Reads.{OnlyReads};
-ghost use Rattle.udf_outside.specs.declared.bench.Role.TheVariants.{Image};
+ghost use Rattle.udf_outside.specs.Sectors.{disk_of};
 ghost use Rattle.udf_volume_model.specs.Kept.{whole_by};
 ghost use Rattle.udf_volume_model.specs.Rules.{is_good as is_good_at, agrees, same_prevailing, same_descriptor as same_in, same_for};
 ghost use Rattle.udf_volume.specs.Led.{listed_in};
 ghost use Rattle.udf_volume.specs.Areas.{anchor_stated};
+ghost use Rattle.udf_volume.specs.Over.{IsOver};
 
 use crate::anchor::ANCHOR;
 use crate::kept::is_complete_list;
@@ -45,14 +43,12 @@ pub fn bad_places<B: Bench>(
     places: &[u32],
     block: &mut [u8],
 ) -> Result<Vec<u32>, WorkStop>
-    requires attached { IsAttached Image (B.files bench.old) }
-    requires within { volume.now.blocks * volume.now.size ≤ (B.files bench.old).image.size }
+    requires over { IsOver volume.now (B.files bench.old) }
     requires room { length block.old ≡ volume.now.size }
-    requires large { 512 ≤ volume.now.size }
     requires inside { All (λ at. at < volume.now.blocks) places.now }
     ensures bad { B.tells → IfOk result (λ v. v.items ≡ filter
         (λ place. not (is_good_at (anchor_stated volume.now) place
-        (block_of volume.now.size (bytes_of Image (B.held bench.old)) place))) places.now) }
+        (disk_of volume.now.size (B.held bench.old) place))) places.now) }
     ensures few { IfOk result (λ v. length v.items ≤ length places.now) }
     ensures reads { OnlyReads B.files B.held B.faults bench.old bench.new WorkStop.Fault result }
 {

@@ -1,15 +1,16 @@
 //! Lists of descriptors: what a block says in a sequence, and the descriptors of an extent.
 ghost use Rattle.std.specs.Prelude.{◌≡◌, ◌+◌, ◌*◌, ◌≤◌, ◌<◌, ◌^◌, ℕ, List, length, IfOk, IsErrOf, true};
-ghost use Rattle.udf_model.specs.Image.{block_of, is_zeros};
-ghost use Rattle.udf_outside.specs.Files.{IsAttached};
+ghost use Rattle.udf_model.specs.Image.{is_zeros};
 ghost use Rattle.udf_outside.specs.Stops.{bytes_of};
 ghost use Rattle.udf_outside.specs.Reads.{OnlyReads};
+ghost use Rattle.udf_outside.specs.Sectors.{disk_of};
 ghost use Rattle.udf_outside.specs.declared.bench.Role.TheVariants.{Image};
 ghost use Rattle.udf_volume_model.specs.Sequence.{is_listed, other_view, view_of, views, front_of, is_spoilt};
 ghost use Rattle.udf_volume_model.specs.Anchor.{is_extent};
 ghost use Rattle.udf_volume.specs.Says.{said};
 ghost use Rattle.udf_volume.specs.Seen.{extent_seen};
 ghost use Rattle.udf_volume.specs.Spans.{said_in};
+ghost use Rattle.udf_volume.specs.Over.{HasBlocks, IsOver};
 
 use crate::{Descriptor, Volume, WorkStop};
 use std::alloc::{AllocError, Global};
@@ -89,15 +90,13 @@ pub fn read_descriptors<B: Bench>(
     count: u32,
     block: &mut [u8],
 ) -> Result<DescriptorList, WorkStop>
-    requires attached { IsAttached Image (B.files bench.old) }
-    requires within { (start + count) * size ≤ (B.files bench.old).image.size }
+    requires image { HasBlocks size (start + count) (B.files bench.old) }
     requires numbers { start + count < 2 ^ 32 }
     requires room { length block.old ≡ size }
-    requires large { 512 ≤ size }
     ensures front { B.tells → IfOk result (λ list. list.descriptors.items
-        ≡ front_of (views (block_of size (bytes_of Image (B.held bench.old))) start count)) }
+        ≡ front_of (views (disk_of size (B.held bench.old)) start count)) }
     ensures spoilt { B.tells → IfOk result (λ list. list.is_spoilt
-        ≡ is_spoilt (views (block_of size (bytes_of Image (B.held bench.old))) start count)) }
+        ≡ is_spoilt (views (disk_of size (B.held bench.old)) start count)) }
     ensures short { IfOk result (λ list. length list.descriptors.items ≤ count) }
     ensures reads { OnlyReads B.files B.held B.faults bench.old bench.new WorkStop.Fault result }
 {
@@ -131,11 +130,8 @@ pub fn read_sequence<B: Bench>(
     extent: Span,
     block: &mut [u8],
 ) -> Result<DescriptorList, WorkStop>
-    requires attached { IsAttached Image (B.files bench.old) }
-    requires within { volume.now.blocks * volume.now.size ≤ (B.files bench.old).image.size }
+    requires over { IsOver volume.now (B.files bench.old) }
     requires room { length block.old ≡ volume.now.size }
-    requires large { 512 ≤ volume.now.size }
-    requires few { volume.now.blocks < 2 ^ 32 }
     requires extent { is_extent volume.now.size volume.now.blocks (extent_seen extent) ≡ true }
     ensures front { B.tells → IfOk result (λ list. list.descriptors.items
         ≡ front_of (said_in volume.now.size (bytes_of Image (B.held bench.old)) extent)) }

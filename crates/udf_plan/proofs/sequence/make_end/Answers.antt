@@ -30,4 +30,4 @@ returns-clause-made g c = λ tells.
     new_end size c.args.target (disk c.args.source) (block_at disk c.args.logical) c.write_terminator.new.block
     (ap (λ b. is_id 8 (whole_id b)) (sym source) ∙ sym c.if-is_terminator.ensures)
     (c.write_terminator.ensures ∙ ap (λ n. terminator n c.args.target c.read_or_blank.new.block) long
-    ∙ like_is size c.args.target disk c.args.logical c.read_or_blank.new.block c.requires.large some c.in_ok-read_or_blank.ensures.blank)
+    ∙ like_is size c.args.target disk c.args.logical c.read_or_blank.new.block c.requires.over.large some c.in_ok-read_or_blank.ensures.blank)

@@ -5,19 +5,23 @@ use Rattle.udf_volume.specs.Spans.{kept_span}
 use Rattle.udf_plan.proofs.Rooms.{run_inside, bytes_inside}
 use Rattle.udf_plan.proofs.sequence.read_kept.Goals as goal
 
-pub read_descriptors-requires-clause-within : goal.read_descriptors-requires-clause-within
-read_descriptors-requires-clause-within g c =
+pub read_descriptors-requires-clause-image : goal.read_descriptors-requires-clause-image
+read_descriptors-requires-clause-image g c =
     let v = c.args.volume.now in
-    bytes_inside v c.requires.bounded v.kept _ _ _ (ap (λ (s : Span). s.start) c.kept_extent-extent.ensures)
-    (c.blocks_of.ensures ∙ ap (λ (s : Span). blocks_for v.size s.length) c.kept_extent-extent.ensures) c.requires.within
+    record {
+      attached = c.requires.over.attached;
+      within = bytes_inside v c.requires.over.bounded v.kept _ _ _ (ap (λ (s : Span). s.start) c.kept_extent-extent.ensures)
+          (c.blocks_of.ensures ∙ ap (λ (s : Span). blocks_for v.size s.length) c.kept_extent-extent.ensures) c.requires.over.within;
+      large = c.requires.over.large;
+    }
 
 pub read_descriptors-requires-clause-numbers : goal.read_descriptors-requires-clause-numbers
 read_descriptors-requires-clause-numbers g c =
     let v = c.args.volume.now in
     omega (
       arith,
-      c.requires.bounded.few,
-      run_inside v c.requires.bounded v.kept c.kept_extent-extent.result.start c.blocks_of.result
+      c.requires.over.bounded.few,
+      run_inside v c.requires.over.bounded v.kept c.kept_extent-extent.result.start c.blocks_of.result
           (ap (λ (s : Span). s.start) c.kept_extent-extent.ensures)
           (c.blocks_of.ensures ∙ ap (λ (s : Span). blocks_for v.size s.length) c.kept_extent-extent.ensures),
     )
@@ -30,6 +34,6 @@ returns-clause-inside g c =
       arith,
       start,
       c.in_ok-list.ensures.short,
-      run_inside v c.requires.bounded v.kept c.kept_extent-extent.result.start c.blocks_of.result start
+      run_inside v c.requires.over.bounded v.kept c.kept_extent-extent.result.start c.blocks_of.result start
           (c.blocks_of.ensures ∙ ap (λ (s : Span). blocks_for v.size s.length) c.kept_extent-extent.ensures),
     )

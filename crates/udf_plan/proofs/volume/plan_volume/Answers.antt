@@ -26,7 +26,7 @@ returns-clause-plan g c = λ tells opened.
     let kept : c.deref.result.now ≡ block_of v.size image v.anchor =
     read ∙ c.in_ok-read_block.ensures.block tells ∙ ap (λ h. block_of v.size (bytes_of Image h) v.anchor) c.in_ok-places.ensures.reads.held in
     let places : c.deref-2.result.now ≡ to_mend (eligible_stated v) (bad_stated v image) = c.deref-2.ensures.value ∙ c.in_ok-places.ensures.wanted tells in
-    exact v.size image v o.0 o.1 c.requires.large is c.fill.new.plan.blocks c.deref.result.now c.deref-2.result.now lawful.ascends
+    exact v.size image v o.0 o.1 c.requires.over.large is c.fill.new.plan.blocks c.deref.result.now c.deref-2.result.now lawful.ascends
     (c.in_ok-fill.ensures.added tells ∙ ap (λ h. all_changes v (bytes_of Image h) c.deref.result.now c.deref-2.result.now) held) kept places
 
 pub returns-clause-lawful : goal.returns-clause-lawful
