@@ -1,5 +1,5 @@
 -- What a check of an image finds.
-use Rattle.std.specs.Prelude.{ℕ, Bool, ◌==◌, ◌-◌, ◌||◌, nat_le, if◌then◌else◌, List, [], ◌∷◌, length, map, Option, Some, None}
+use Rattle.std.specs.Prelude.{ℕ, Bool, ◌-◌, if◌then◌else◌, List, [], ◌∷◌, length, map, Option, Some, None}
 use Rattle.udf_model.specs.Image.{block_of, blocks_in}
 use Rattle.udf_volume_model.specs.Kept.{Volume, volume_of}
 use Rattle.udf_volume_model.specs.Rules as model
@@ -23,13 +23,13 @@ findings_by size image (Some volume) = map finding_of (findings size (blocks_in 
 unfoldable pub findings_in : ℕ → List ℕ → List Finding
 findings_in size image = findings_by size image (volume_of size image)
 
--- what is reported of the eligible places, of which these are not good
-unfoldable pub anchor_report : List ℕ → List ℕ → List Finding
-anchor_report eligible bad =
-    if nat_le 2 (length eligible - length bad) || (length bad == 0) then []
+-- what is reported of the eligible places, of which these are not good, unless the rule holds
+unfoldable pub anchor_report : Bool → List ℕ → List ℕ → List Finding
+anchor_report holds eligible bad =
+    if holds then []
     else map (λ place. record { rule = 2; place = Sector place; first = length eligible - length bad; second = length eligible }) bad
 
--- what is reported of the other sequence, from its first sector, the descriptors read there and the kept ones
+-- what is reported of the other sequence, by its first sector, the descriptors read there and the kept ones, unless the rule holds
 unfoldable pub sequence_report : Bool → ℕ → ℕ → ℕ → List Finding
-sequence_report agree start read kept =
-    if agree then [] else record { rule = 3; place = Sector start; first = read; second = kept } ∷ []
+sequence_report holds start read kept =
+    if holds then [] else record { rule = 3; place = Sector start; first = read; second = kept } ∷ []

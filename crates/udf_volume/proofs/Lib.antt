@@ -16,3 +16,5 @@ pub mod Laying
 pub mod LaidOut
 pub mod Protected
 pub mod Parted
+pub mod Parts
+pub mod Judged

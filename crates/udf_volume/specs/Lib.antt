@@ -11,4 +11,4 @@ pub mod Spans
 pub mod Laid
 pub mod Writable
 pub mod Refusals
-pub mod Eligible
+pub mod Verdicts

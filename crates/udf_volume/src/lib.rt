@@ -4,9 +4,11 @@
 //! an extent. It stands on fields and tags, on the bench, and on the definitions of volumes.
 #![tactic(auto)]
 
+mod agreement;
 mod anchor;
 mod area;
 mod descriptor;
+mod good_anchors;
 mod highest;
 mod kept;
 mod layout;
@@ -16,18 +18,18 @@ mod missing;
 mod open;
 mod profile;
 mod ranked;
-mod rules;
 mod sequence;
 mod volume;
 mod writable;
 
+pub use agreement::{SequenceVerdict, sequence_verdict};
 pub use anchor::places_of;
-pub use area::{Area, areas_of, eligible_places, lies_outside};
+pub use area::{Area, areas_of, lies_outside};
 pub use descriptor::Descriptor;
+pub use good_anchors::{AnchorVerdict, anchor_verdict};
 pub use highest::{prevailing, prevailing_index};
 pub use missing::{LayerStop, Missing, ProfileItem, WorkStop};
 pub use open::open_volume;
-pub use rules::{bad_places, is_good, sequences_agree};
 pub use sequence::{DescriptorList, read_descriptors, read_sequence};
 pub use volume::{MetaMap, Shape, SparingMap, Upper, Volume, Which};
 pub use writable::{open_writable, opened_law};

@@ -43,11 +43,15 @@ good_of disk volume list = filter (λ place. is_good volume.anchor place (disk p
 abbrev pub bad_of : (ℕ → List ℕ) → Volume → List ℕ → List ℕ
 bad_of disk volume list = filter (λ place. not (is_good volume.anchor place (disk place))) list
 
--- The rule on anchors: at least two of the eligible places are good, or all are.
+-- of these places at least two are good, or all are
+abbrev pub suffice : Anchor → (ℕ → List ℕ) → List ℕ → Bool
+suffice anchor disk places =
+    nat_le 2 (length (filter (λ place. is_good anchor place (disk place)) places))
+    || list_all (λ place. is_good anchor place (disk place)) places
+
+-- The rule on anchors: the eligible places suffice.
 unfoldable pub anchors_hold : ℕ → ℕ → (ℕ → List ℕ) → Volume → Bool
-anchors_hold size blocks disk volume =
-    nat_le 2 (length (good_of disk volume (eligible size blocks volume)))
-    || list_all (λ place. is_good volume.anchor place (disk place)) (eligible size blocks volume)
+anchors_hold size blocks disk volume = suffice volume.anchor disk (eligible size blocks volume)
 
 abbrev pub same_descriptor : Option Descriptor → Option Descriptor → Bool
 same_descriptor None None = true

@@ -16,8 +16,8 @@ pub add_copies-requires-clause-to_inside : goal.add_copies-requires-clause-to_in
 add_copies-requires-clause-to_inside g c =
     let v = c.args.volume.now in last_inside v c.requires.over.bounded (opposite v.kept) _ (ap (λ (s : Span). s.start) c.other_extent-to.ensures)
 
-pub overflow_add-to : goal.overflow_add-to
-overflow_add-to g c =
+pub overflow_add-target : goal.overflow_add-target
+overflow_add-target g c =
     let v = c.args.volume.now in
     omega (arith, c.requires.over.bounded.few, last_inside v c.requires.over.bounded (opposite v.kept) c.other_extent-to.result.start (ap (λ (s : Span). s.start) c.other_extent-to.ensures))
 

@@ -1,14 +1,12 @@
 use Rattle.std.proofs.Common.{◌≡◌, ◌<◌, ◌++◌, [], ℕ, List, true, leb, ltb, sym, subst, ap, ◌∙◌}
 use Rattle.std.specs.List.{All, list_all, filter}
-use Rattle.udf_model.specs.Image.{block_of}
 use Rattle.udf_field.specs.declared.address.Span.{Span}
 use Rattle.udf_outside.specs.Stops.{Held, bytes_of}
 use Rattle.udf_outside.specs.declared.bench.Role.TheVariants.{Image}
-use Rattle.udf_volume.specs.Areas.{anchor_stated}
 use Rattle.udf_volume.specs.Spans.{other_span}
 use Rattle.udf_blocks.specs.Planned.{Planned, are_below}
-use Rattle.udf_plan.specs.Changes.{changes, anchor_after, KeepsTo, AscendFrom}
-use Rattle.udf_plan.specs.Stated.{all_changes, sequence_changes}
+use Rattle.udf_plan.specs.Changes.{KeepsTo, AscendFrom}
+use Rattle.udf_plan.specs.Stated.{anchored, all_changes, sequence_changes}
 use Rattle.udf_plan.proofs.Filling.{low_ascends, high_ascends, low_inside, high_inside, low_above, sequence_above, high_above, all_inside, all_unsealed, joined, extents_apart}
 use Rattle.udf_plan.proofs.volume.fill.Goals as goal
 
@@ -150,9 +148,7 @@ returns-clause-added g c =
     let none : List (ℕ × List ℕ) = c.args.plan.now.blocks in
     let blank : none ≡ [] = ap (λ (p : Planned). p.blocks) c.requires.blank in
     let image : List ℕ = bytes_of Image (g.B.Bench.held c.args.bench.now) in
-    let kept : List ℕ = c.args.kept.now in
-    let made : Held → List ℕ → List (ℕ × List ℕ) =
-    λ h xs. changes (block_of v.size (bytes_of Image h)) (anchor_after (block_of v.size (bytes_of Image h)) (anchor_stated v) kept) xs in
+    let made : Held → List ℕ → List (ℕ × List ℕ) = λ h xs. anchored v (bytes_of Image h) xs in
     let held : g.B.Bench.held c.add_sequence.new.bench ≡ g.B.Bench.held c.args.bench.now =
     c.in_ok-add_sequence.ensures.reads.held ∙ c.in_ok-add_anchors.ensures.reads.held in
     joined none c.add_anchors.new.plan.blocks c.add_sequence.new.plan.blocks c.add_anchors-2.new.plan.blocks

@@ -4,9 +4,9 @@ use Rattle.udf_model.specs.Tag.{relocated}
 use Rattle.udf_outside.specs.Stops.{bytes_of}
 use Rattle.udf_outside.specs.declared.bench.Role.TheVariants.{Image}
 use Rattle.udf_blocks.specs.Planned.{Planned}
-use Rattle.udf_plan.specs.Changes.{KeepsTo}
+use Rattle.udf_plan.specs.Changes.{copy_of, KeepsTo}
 use Rattle.udf_plan.proofs.Changing.{compared, keeps_one}
-use Rattle.udf_plan.proofs.sequence.add_copy.Goals as goal
+use Rattle.udf_plan.proofs.copy.add_copy.Goals as goal
 
 pub returns-clause-added : goal.returns-clause-added
 returns-clause-added g c = λ tells.
@@ -18,7 +18,7 @@ returns-clause-added g c = λ tells.
     c.in_ok-read_block-2.ensures.block tells ∙ ap (λ h. block_of size (bytes_of Image h) c.args.to) c.in_ok-read_block.ensures.reads.held in
     ap (λ (p : Planned). p.blocks) c.in_ok-add_difference.ensures
     ∙ ap (λ more. c.args.plan.now.blocks ++ more)
-    (compared disk (λ n. relocated n (disk c.args.from)) c.args.to c.read_block-2.new.into c.relocate.new.area now made)
+    (compared disk (copy_of disk c.args.from) c.args.to c.read_block-2.new.into c.relocate.new.area now made)
 
 pub returns-clause-keeps : goal.returns-clause-keeps
 returns-clause-keeps g c =

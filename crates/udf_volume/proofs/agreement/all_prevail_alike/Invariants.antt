@@ -1,7 +1,7 @@
 use Rattle.std.proofs.Common.{◌≡◌, ◌<◌, ℕ, true, get_or}
 use Rattle.udf_volume_model.specs.Sequence.{Descriptor}
 use Rattle.udf_volume_model.specs.Rules.{same_for}
-use Rattle.udf_volume.proofs.rules.all_prevail_alike.Given as goal
+use Rattle.udf_volume.proofs.agreement.all_prevail_alike.Given as goal
 
 abbrev pub invariant-loop-descriptor : goal.invariant-loop-descriptor
 invariant-loop-descriptor l =

@@ -1,7 +1,7 @@
 use Rattle.std.proofs.Common.{arith, sym}
 use Rattle.std.proofs.lemmas.List.Sums.{list_all-from_AllPass}
 use Rattle.udf_volume_model.specs.Rules.{same_for}
-use Rattle.udf_volume.proofs.rules.all_prevail_alike.Goals as goal
+use Rattle.udf_volume.proofs.agreement.all_prevail_alike.Goals as goal
 
 pub returns : goal.returns
 returns c =
