@@ -20,11 +20,10 @@ use Rattle.udf_volume.specs.declared.missing.ProfileItem.TheVariants as item
 use Rattle.udf_volume_model.specs.Sequence.{Descriptor}
 use Rattle.udf_volume_model.specs.Prevailing.{prevailing}
 use Rattle.udf_volume_model.specs.Kept as model
-use Rattle.udf_volume_model.specs.Stated.{volume_information, body_of, map_number, mapped_partition, has_one_map, is_built, logical, partition}
+use Rattle.udf_volume_model.specs.Stated.{body_of, map_number, mapped_partition, has_one_map, is_built, logical, partition}
 use Rattle.udf_volume.specs.declared.volume.Volume.{Volume}
 use Rattle.udf_volume.specs.declared.volume.Which.{Which}
 use Rattle.udf_volume.specs.declared.volume.Which.TheVariants as which
-use Rattle.udf_volume.specs.declared.open.TheConstants.{LV_INFO}
 use Rattle.udf_volume.specs.Seen.{which_seen}
 use Rattle.udf_volume.specs.Opened.{volume_by, which_of, stated_in, by_profile, by_refusal, unlike_profile, unlike_maps, refusal_of, accepted, by_volume, opened}
 
@@ -76,10 +75,6 @@ module _ (size blocks : ℕ) (volume : model.Volume) where
 pub which_back : (w : Which) → w ≡ which_of (which_seen w)
 which_back which.Main = refl
 which_back which.Reserve = refl
-
-pub information_is : LV_INFO ≡ volume_information
-unfolding volume_information
-information_is = refl
 
 -- what is answered for what the places hold
 abbrev pub answer_of : ℕ → ℕ → (ℕ → List ℕ) → Found → Result Volume Missing

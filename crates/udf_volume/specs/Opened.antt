@@ -7,7 +7,7 @@ use Rattle.udf_volume_model.specs.Anchor.{places, blocks_of, is_extent}
 use Rattle.udf_volume_model.specs.Kept as model_kept
 use Rattle.udf_volume_model.specs.Kept.{kept, volume_of, has_anchor}
 use Rattle.udf_volume_model.specs.Sequence.{Descriptor}
-use Rattle.udf_volume_model.specs.Profile.{has_block_size, has_domain, has_revision, has_pointer, is_absent, has_no_tables}
+use Rattle.udf_volume_model.specs.Profile.{has_block_size, has_domain, has_revision, has_pointer, has_no_tables}
 use Rattle.udf_volume_model.specs.Layout.{is_lawful}
 use Rattle.udf_volume_model.specs.Stated.{map_number, logical, partition, is_built, volume_information}
 use Rattle.udf_field.specs.FieldView.{short_at, long_at, span_at}
@@ -81,10 +81,6 @@ unlike_maps list =
     if not (is_built list) then Some item.Unbuilt
     else if not (has_no_tables list) then Some item.SpaceTables
     else None
-
--- the header of a partition descriptor with these bytes names no tables and no freed space
-unfoldable pub are_absent : List ℕ → Bool
-are_absent body = is_absent body 56 && (is_absent body 72 && (is_absent body 80 && is_absent body 88))
 
 -- the first test of the profile that the descriptors of a kept sequence fail
 unfoldable pub unlike_profile : ℕ → List Descriptor → Option ProfileItem

@@ -15,6 +15,7 @@ mod layout;
 mod leading;
 mod matter;
 mod missing;
+mod offset;
 mod open;
 mod profile;
 mod ranked;

@@ -8,7 +8,7 @@ ghost use Rattle.udf_outside.specs.declared.bench.Role.TheVariants.{Image};
 ghost use Rattle.udf_volume_model.specs.Kept.{kept};
 ghost use Rattle.udf_volume_model.specs.Sequence as model;
 ghost use Rattle.udf_volume_model.specs.Prevailing.{prevailing_index as index_of};
-ghost use Rattle.udf_volume_model.specs.Stated.{is_built, map_number as number_of_map};
+ghost use Rattle.udf_volume_model.specs.Stated.{map_number as number_of_map, volume_information};
 ghost use Rattle.udf_volume.specs.Laid.{IsLaidOut};
 ghost use Rattle.udf_volume.specs.Leads.{IsLeading};
 ghost use Rattle.udf_volume.specs.Led.{IsLed, led_seen};
@@ -17,13 +17,11 @@ ghost use Rattle.udf_volume.specs.Opened.{volume_by, stated_in, sector_in, bitma
 ghost use Rattle.udf_volume.specs.Over.{HasBlocks};
 
 use crate::anchor::places_of;
-use crate::descriptor::{IMPLEMENTATION_USE, TAG};
 use crate::kept::{Found, Led, search};
 use crate::layout::is_lawful;
+use crate::offset::{ACCESS, FILE_SET, INTEGRITY, LENGTH, PROTECTION, REVISION, SPACE_BITMAP, START};
 use crate::profile::{has_one_map, unlike_profile};
-use crate::{
-    Descriptor, LayerStop, Missing, ProfileItem, Shape, Upper, Volume, Which, prevailing_index,
-};
+use crate::{Descriptor, LayerStop, Missing, ProfileItem, Shape, Upper, Volume, Which};
 use std::alloc::Global;
 use udf_field::{Fields, Short, Span};
 use udf_outside::Bench;
@@ -31,29 +29,8 @@ use udf_outside::Bench;
 /// The most blocks of an image.
 const MOST_BLOCKS: u64 = 4_294_967_295;
 
-// Offsets in the logical volume descriptor (ECMA-167 3/10.6), behind its tag.
-const FILE_SET: usize = 248 - TAG;
-
-const REVISION: usize = 240 - TAG;
-
-const PROTECTION: usize = 242 - TAG;
-
-const INTEGRITY: usize = 432 - TAG;
-
-// Offsets in the partition descriptor (3/10.5), and in the header in its contents use (4/14.3), behind its tag.
-const SPACE_BITMAP: usize = 64 - TAG;
-
-const ACCESS: usize = 184 - TAG;
-
-const START: usize = 188 - TAG;
-
-const LENGTH: usize = 192 - TAG;
-
 /// The bits of hard and soft write protection (UDF 2.1.5.3).
 const PROTECTION_BITS: u8 = 3;
-
-/// The identifier of the implementation use descriptor with the volume's names (UDF 2.2.7).
-const LV_INFO: [u8; 23] = *b"*UDF LV Info\0\0\0\0\0\0\0\0\0\0\0";
 
 #[tactic(auto, unfolding(crate::specs::Opened::bitmap_in))]
 fn bitmap(partition: &Fields<'_>) -> Option<Short>
@@ -88,13 +65,16 @@ fn sector_at(led: &Led, index: usize) -> u32
 }
 
 // The sector of the descriptor with the volume's names that prevails in a kept sequence.
-#[tactic(auto, unfolding(crate::specs::Opened::sector_in), using(crate::proofs::Opening::information_is))]
+#[tactic(auto, using(crate::proofs::Leads::some_sector, crate::proofs::Leads::no_sector))]
 fn information_sector(led: &Led) -> Option<u32>
-    requires { (kept (led_seen led.now)).start + length_of led.now.descriptors.items < 2 ^ 32 }
-    ensures { result ≡ sector_in (led_seen led.now) 4 LV_INFO }
+    requires fits { (kept (led_seen led.now)).start + length_of led.now.descriptors.items < 2 ^ 32 }
+    requires leading { IsLeading led.now.descriptors.items led.now.leading }
+    ensures { result ≡ sector_in (led_seen led.now) 4 volume_information }
 {
-    let index = prevailing_index(&led.descriptors, IMPLEMENTATION_USE, &LV_INFO)?;
-    Some(sector_at(led, index))
+    match led.leading.information {
+        None => None,
+        Some(index) => Some(sector_at(led, index)),
+    }
 }
 
 // Whether a bit of write protection stands.
@@ -182,7 +162,7 @@ fn accept<B: Bench>(
     ensures areas { IfOk result IsLaidOut }
     ensures reads { OnlyReads B.files B.held B.faults bench.old bench.new LayerStop.Fault result }
 {
-    if let Some(item) = unlike_profile(&led.descriptors, size) {
+    if let Some(item) = unlike_profile(&led.descriptors, &led.leading, size) {
         return Err(LayerStop::Missing(Missing::Profile(item)));
     }
     let Some(volume) = stated(led, size, blocks) else {
