@@ -16,12 +16,12 @@ ghost use Rattle.udf_plan.specs.Stated.{copied, ended, sequence_changes};
 
 use crate::copy::add_copy;
 use crate::difference::add_difference;
-use crate::terminator::{TERMINATING, write_terminator};
+use crate::terminator::write_terminator;
 use crate::{Plan, WorkStop};
 use std::alloc::Global;
 use udf_field::{relocate, whole_id};
 use udf_outside::{Bench, read_block};
-use udf_volume::{Volume, sequence_verdict};
+use udf_volume::{TERMINATING, Volume, sequence_verdict};
 
 // Adds the copies of the kept descriptors, from one sector on, at another sector on.
 fn add_copies<B: Bench>(

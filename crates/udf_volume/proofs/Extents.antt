@@ -34,6 +34,12 @@ pub both : (size blocks : ℕ) (anchor : Anchor) → names_extents size blocks a
 unfolding names_extents
 both size blocks anchor e = and_parts _ _ e
 
+-- one of the extents that an anchor names
+pub named : (size blocks : ℕ) (anchor : Anchor) (which : Which) → names_extents size blocks anchor ≡ true
+    → is_extent size blocks (extent_of (which_seen which) anchor) ≡ true
+named size blocks anchor which.Main e = (both size blocks anchor e).0
+named size blocks anchor which.Reserve e = (both size blocks anchor e).1
+
 limits : (size : ℕ) (anchor : Anchor) → (limit_of size anchor ≤ blocks_of size anchor.main) × (limit_of size anchor ≤ blocks_of size anchor.reserve)
 unfolding limit_of
 limits size anchor = (omega arith, omega arith)

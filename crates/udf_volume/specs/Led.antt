@@ -1,8 +1,8 @@
 -- What the code found at the places of anchors, as the definitions have it.
 use Rattle.std.specs.Prelude.{◌≡◌, ℕ, ◌<◌, Bool, true, false, List, Option, Some, None, if◌then◌else◌}
 use Rattle.udf_volume_model.specs.Sequence.{Descriptor}
-use Rattle.udf_volume_model.specs.Anchor.{names_extents}
-use Rattle.udf_volume_model.specs.Kept.{Volume, is_complete, limit_of}
+use Rattle.udf_volume_model.specs.Anchor.{Anchor, names_extents}
+use Rattle.udf_volume_model.specs.Kept.{Volume, Which, is_complete, limit_of}
 use Rattle.udf_volume.specs.Seen.{anchor_seen, which_seen}
 use Rattle.udf_volume.specs.Leads.{IsLeading}
 use Rattle.udf_volume.specs.declared.sequence.DescriptorList.{DescriptorList}
@@ -21,6 +21,10 @@ led_seen led = record {
   which = which_seen led.which;
   list = led.descriptors.items;
 }
+
+-- a kept sequence, by its list
+abbrev pub kept_as : ℕ → Anchor → Which → List Descriptor → Volume
+kept_as place anchor which list = record { place = place; anchor = anchor; which = which; list = list }
 
 -- what holds of every kept sequence, also over a bench that tells nothing
 pub record IsLed (size blocks : ℕ) (led : Led) : Type 0 where

@@ -2,7 +2,6 @@
 use Rattle.std.specs.Prelude.{◌≡◌, ◌⊎◌, ℕ, Bool, ◌≤◌, ◌<◌, ◌+◌, ◌-◌, ◌^◌, ◌%◌, ◌==◌, ◌&&◌, not, nat_lt, if◌then◌else◌, List, [], length, Option, Some, None, option_map, unwrap_or, true, Result, Ok, Err, slice_index}
 use Rattle.udf_model.specs.Image.{block_of, blocks_in}
 use Rattle.udf_volume_model.specs.Prevailing.{number_in, prevailing_index}
-use Rattle.udf_volume_model.specs.Anchor as model
 use Rattle.udf_volume_model.specs.Anchor.{places, blocks_of, is_extent}
 use Rattle.udf_volume_model.specs.Kept as model_kept
 use Rattle.udf_volume_model.specs.Kept.{kept, volume_of, has_anchor}
@@ -13,7 +12,7 @@ use Rattle.udf_volume_model.specs.Stated.{map_number, logical, partition, is_bui
 use Rattle.udf_field.specs.FieldView.{short_at, long_at, span_at}
 use Rattle.udf_field.specs.declared.address.Span.{Span}
 use Rattle.udf_field.specs.declared.address.Short.{Short}
-use Rattle.udf_volume.specs.Seen.{extent_seen}
+use Rattle.udf_volume.specs.Seen.{extent_seen, span_of}
 use Rattle.udf_volume.specs.Spans.{kept_span, limit_stated}
 use Rattle.udf_volume.specs.declared.volume.Which.{Which}
 use Rattle.udf_volume.specs.declared.volume.Which.TheVariants as which
@@ -25,9 +24,6 @@ use Rattle.udf_volume.specs.declared.missing.ProfileItem.{ProfileItem}
 use Rattle.udf_volume.specs.declared.missing.ProfileItem.TheVariants as item
 use Rattle.udf_volume.specs.declared.missing.LayerStop.{LayerStop}
 use Rattle.udf_volume.specs.declared.missing.LayerStop.TheVariants as stops
-
-abbrev pub span_of : model.Extent → Span
-span_of extent = record { length = extent.bytes; start = extent.start }
 
 abbrev pub which_of : model_kept.Which → Which
 which_of model_kept.Main = which.Main

@@ -5,9 +5,9 @@ ghost use Rattle.udf_volume_model.specs.Prevailing.{prevailing_index as index_of
 ghost use Rattle.udf_volume.specs.Leads.{IsLeading};
 
 use crate::descriptor::{IMPLEMENTATION_USE, LOGICAL_VOLUME, PARTITION, PRIMARY};
-use crate::highest::best_of;
+use crate::Descriptor;
+use crate::prevailing::{best_of, prevailing_index};
 use crate::profile::map_number;
-use crate::{Descriptor, prevailing_index};
 
 /// The descriptors that prevail in a list and by which a volume is stated, by their indexes.
 #[derive(Clone, Copy, Debug)]

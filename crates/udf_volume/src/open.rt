@@ -21,9 +21,9 @@ use crate::kept::{Found, Led, search};
 use crate::layout::is_lawful;
 use crate::offset::{ACCESS, FILE_SET, INTEGRITY, LENGTH, PROTECTION, REVISION, SPACE_BITMAP, START};
 use crate::profile::{has_one_map, unlike_profile};
-use crate::{Descriptor, LayerStop, Missing, ProfileItem, Shape, Upper, Volume, Which};
+use crate::{Descriptor, LayerStop, Missing, ProfileItem, Shape, Upper, Volume};
 use std::alloc::Global;
-use udf_field::{Fields, Short, Span};
+use udf_field::{Fields, Short};
 use udf_outside::Bench;
 
 /// The most blocks of an image.
@@ -45,23 +45,13 @@ fn bitmap(partition: &Fields<'_>) -> Option<Short>
     }
 }
 
-// The extent of the kept sequence.
-fn kept_extent(led: &Led) -> Span
-    ensures { result ≡ record { length = (kept (led_seen led.now)).bytes; start = (kept (led_seen led.now)).start } }
-{
-    match led.which {
-        Which::Main => led.anchor.main,
-        Which::Reserve => led.anchor.reserve,
-    }
-}
-
 // The sector of a descriptor of a kept sequence.
 fn sector_at(led: &Led, index: usize) -> u32
     requires inside { index < length_of led.now.descriptors.items }
     requires fits { (kept (led_seen led.now)).start + length_of led.now.descriptors.items < 2 ^ 32 }
     ensures { result ≡ (kept (led_seen led.now)).start + index }
 {
-    kept_extent(led).start + index as u32
+    led.anchor.extent(led.which).start + index as u32
 }
 
 // The sector of the descriptor with the volume's names that prevails in a kept sequence.

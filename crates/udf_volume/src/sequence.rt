@@ -12,13 +12,13 @@ ghost use Rattle.udf_volume.specs.Seen.{extent_seen};
 ghost use Rattle.udf_volume.specs.Spans.{said_in};
 ghost use Rattle.udf_volume.specs.Over.{HasBlocks, IsOver};
 
+use crate::descriptor::{
+    IMPLEMENTATION_USE, LOGICAL_VOLUME, PARTITION, POINTER, PRIMARY, TERMINATING, UNALLOCATED_SPACE,
+};
 use crate::{Descriptor, Volume, WorkStop};
 use std::alloc::{AllocError, Global};
 use udf_field::{Span, whole_id};
 use udf_outside::{Bench, read_block};
-
-/// The identifier of a terminating descriptor (ECMA-167 3/10.9).
-const TERMINATING: u16 = 8;
 
 /// The descriptors of a list, up to the first block that ends or spoils it.
 #[derive(Debug, Drop)]
@@ -46,7 +46,10 @@ fn all_zeros(block: &[u8]) -> bool
 fn is_volume_descriptor(id: u16) -> bool
     ensures { result ≡ is_listed id }
 {
-    id == 1 || id == 3 || id == 4 || id == 5 || id == 6 || id == 7
+    matches!(
+        id,
+        PRIMARY | POINTER | IMPLEMENTATION_USE | PARTITION | LOGICAL_VOLUME | UNALLOCATED_SPACE
+    )
 }
 
 // What a block says that is neither terminator nor descriptor.

@@ -1,8 +1,8 @@
 //! Prevailing descriptors (ECMA-167 3/8.4.3).
 ghost use Rattle.std.specs.Prelude.{◌≡◌, ◌+◌, ◌<◌, ℕ, List, length, Some, true, slice_get, IfSome};
-ghost use Rattle.std.specs.Option.{ForSome, option_copied};
+ghost use Rattle.std.specs.Option.{ForSome};
 ghost use Rattle.udf_volume_model.specs.Sequence as model;
-ghost use Rattle.udf_volume_model.specs.Prevailing.{is_of, prevailing as prevails_in, prevailing_index as index_of};
+ghost use Rattle.udf_volume_model.specs.Prevailing.{is_of, prevailing_index as index_of};
 ghost use Rattle.udf_volume.specs.Best.{IsBest};
 
 use crate::Descriptor;
@@ -52,20 +52,9 @@ pub(crate) fn best_of(list: &[Descriptor], kind: u16, subject: &[u8]) -> Option<
 /// The index of the descriptor that prevails of a kind, which is the identifier of its tag, and a subject
 /// (`Descriptor::subject`).
 #[tactic(auto, using(crate::proofs::Prevail::is_found))]
-pub fn prevailing_index(list: &[Descriptor], kind: u16, subject: &[u8]) -> Option<usize>
+pub(crate) fn prevailing_index(list: &[Descriptor], kind: u16, subject: &[u8]) -> Option<usize>
     ensures index { result ≡ index_of kind subject.now list.now }
     ensures inside { IfSome result (λ i. i < length list.now) }
 {
     best_of(list, kind, subject)
-}
-
-/// The descriptor that prevails of a kind and subject.
-#[tactic(auto, using(crate::proofs::Prevail::found, crate::proofs::Prevail::not_found))]
-pub fn prevailing<'a>(list: &'a [Descriptor], kind: u16, subject: &[u8]) -> Option<&'a Descriptor>
-    ensures { option_copied result ≡ prevails_in kind subject.now list.now }
-{
-    match prevailing_index(list, kind, subject) {
-        None => None,
-        Some(index) => Some(&list[index]),
-    }
 }

@@ -1,7 +1,7 @@
 use Rattle.udf_volume.specs.Best.{IsBest}
 use Rattle.std.proofs.Common.{◌<◌, length}
 use Rattle.std.specs.Option.{ForSome}
-use Rattle.udf_volume.proofs.highest.best_of.Given as goal
+use Rattle.udf_volume.proofs.prevailing.best_of.Given as goal
 
 abbrev pub invariant-loop-i : goal.invariant-loop-i
 invariant-loop-i l = record {
