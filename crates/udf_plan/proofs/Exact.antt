@@ -7,7 +7,7 @@ use Rattle.udf_model.specs.Tag.{relocated}
 use Rattle.udf_model.specs.Image.{block_of, blocks_in}
 use Rattle.udf_volume_model.specs.Anchor.{Extent}
 use Rattle.udf_volume_model.specs.Kept as model
-use Rattle.udf_volume_model.specs.Kept.{kept, other, volume_of}
+use Rattle.udf_volume_model.specs.Kept.{kept, other, kept_sequence_of}
 use Rattle.udf_volume_model.specs.Rules.{eligible, bad_of, anchors_hold, sequences_hold}
 use Rattle.udf_volume_model.specs.Profile.{has_block_size, is_profile}
 use Rattle.udf_volume_model.specs.Layout.{is_lawful}
@@ -32,7 +32,7 @@ use Rattle.udf_plan.proofs.Changing.{changes_both, same_after}
 use Rattle.udf_plan.proofs.Wanted.{place_final, copy_final, end_final, off_final}
 
 -- the block size that the descriptors of an opened volume state
-sized_of : (size : ℕ) (image : List ℕ) (v : model.Volume) → 512 ≤ size → is_opened size image ≡ true → volume_of size image ≡ Some v
+sized_of : (size : ℕ) (image : List ℕ) (v : model.KeptSequence) → 512 ≤ size → is_opened size image ≡ true → kept_sequence_of size image ≡ Some v
     → has_block_size size v.list ≡ true
 unfolding is_profile
 sized_of size image v large accepted found =
@@ -119,7 +119,7 @@ changes_alike disk after next (x ∷ xs) h =
     ∙ ap (λ tail. changes disk next (x ∷ []) ++ tail) (changes_alike disk after next xs (λ n i. h n (inr i)))
     ∙ sym (changes_both disk next (x ∷ []) xs)
 
-module _ (size : ℕ) (image : List ℕ) (volume : Volume) (v : model.Volume) (d : Describes size image volume v) where
+module _ (size : ℕ) (image : List ℕ) (volume : Volume) (v : model.KeptSequence) (d : Describes size image volume v) where
   abbrev disk : ℕ → List ℕ
   disk = block_of size image
 

@@ -2,7 +2,7 @@
 use Rattle.std.proofs.Common.{◌≡◌, ◌⊎◌, inl, inr, ℕ, zero, suc, ◌+◌, ◌<◌, ◌≤◌, arith, refl, sym, ◌∙◌, ap, subst, List, [], ◌++◌, length, Bool, true, false, cond, not, Some}
 use Rattle.udf_model.specs.Tag.{relocated}
 use Rattle.udf_model.specs.Image.{block_of, blocks_in}
-use Rattle.udf_volume_model.specs.Kept.{Volume, kept, other, volume_of}
+use Rattle.udf_volume_model.specs.Kept.{KeptSequence, kept, other, kept_sequence_of}
 use Rattle.udf_volume_model.specs.Rules.{ascending_places, is_eligible, eligible, is_good, bad_of, anchors_hold, sequences_hold}
 use Rattle.udf_volume_model.specs.Edits.{look}
 use Rattle.udf_volume_model.specs.Mended.{logical_block, end_block, copies, sequence_edits, anchor_edits, edits}
@@ -52,7 +52,7 @@ not_true : (b : Bool) → not b ≡ true → b ≡ false
 not_true true e = cc
 not_true false e = refl
 
-module _ (size : ℕ) (image : List ℕ) (volume : Volume) (large : 512 ≤ size) (accepted : is_opened size image ≡ true) (is : volume_of size image ≡ Some volume) where
+module _ (size : ℕ) (image : List ℕ) (volume : KeptSequence) (large : 512 ≤ size) (accepted : is_opened size image ≡ true) (is : kept_sequence_of size image ≡ Some volume) where
   abbrev disk : ℕ → List ℕ
   disk = block_of size image
 

@@ -7,7 +7,7 @@ ghost use Rattle.udf_outside.specs.declared.bench.Role.TheVariants.{Image};
 ghost use Rattle.udf_volume_model.specs.Areas.{covers};
 ghost use Rattle.udf_volume_model.specs.Opened.{is_opened, volume_mended, plan_of};
 ghost use Rattle.udf_volume.specs.Laid.{IsLaidOut};
-ghost use Rattle.udf_volume.specs.Opened.{opened};
+ghost use Rattle.udf_volume.specs.Opened.{opening};
 ghost use Rattle.udf_blocks.specs.Planned.{are_at, are_below};
 ghost use Rattle.udf_blocks.specs.PlanFor.{sealed_stated, IsPlanFor};
 ghost use Rattle.udf_plan.specs.Stated.{places_mended, all_changes, AreRuled};
@@ -96,7 +96,7 @@ pub fn plan_volume<B: Bench>(
 ) -> Result<Plan, WorkStop>
     requires over { IsOver volume.now (B.files bench.old) }
     requires laid { IsLaidOut volume.now }
-    ensures plan { B.tells → opened volume.now.size (bytes_of Image (B.held bench.old)) ≡ Ok volume.now
+    ensures plan { B.tells → opening volume.now.size (bytes_of Image (B.held bench.old)) ≡ Ok volume.now
         → IfOk result (λ plan. plan.blocks ≡ plan_of volume.now.size (bytes_of Image (B.held bench.old))
         (volume_mended volume.now.size (bytes_of Image (B.held bench.old)))) }
     ensures lawful { IfOk result (IsPlanFor volume.now) }

@@ -3,13 +3,13 @@ use Rattle.std.proofs.Common.{◌≡◌, ℕ, ◌-◌, ◌≤◌, arith, refl, s
 use Rattle.udf_model.specs.Image.{block_of, blocks_in}
 use Rattle.udf_volume_model.specs.Sequence.{Descriptor, views, front_of}
 use Rattle.udf_volume_model.specs.Anchor.{Extent, blocks_of}
-use Rattle.udf_volume_model.specs.Kept.{Volume, other, volume_of}
+use Rattle.udf_volume_model.specs.Kept.{KeptSequence, other, kept_sequence_of}
 use Rattle.udf_volume_model.specs.Rules as model
-use Rattle.udf_volume_model.specs.Rules.{Found, eligible, is_good, good_of, bad_of, anchors_hold, anchor_findings, sequences_hold, sequence_findings, findings}
+use Rattle.udf_volume_model.specs.Rules.{Finding, eligible, is_good, good_of, bad_of, anchors_hold, anchor_findings, sequences_hold, sequence_findings, findings}
 use Rattle.udf_volume.specs.declared.volume.Volume as code
 use Rattle.udf_volume.specs.declared.good_anchors.AnchorVerdict.{AnchorVerdict}
 use Rattle.udf_volume.specs.declared.agreement.SequenceVerdict.{SequenceVerdict}
-use Rattle.udf_volume.specs.Opened.{opened}
+use Rattle.udf_volume.specs.Opened.{opening}
 use Rattle.udf_volume.specs.Spans.{other_span}
 use Rattle.udf_volume.specs.Verdicts.{eligible_stated, bad_stated, anchors_suffice, kept_list, other_list, sequences_agree_in, HasPlaces, JudgesAnchors, JudgesSequences}
 use Rattle.udf_volume.proofs.Described.{Describes, opened_ok, other_is}
@@ -17,14 +17,14 @@ use Rattle.udf_volume.proofs.Parted.{parted}
 use Rattle.udf_volume.proofs.Parts.{shorter}
 use Rattle.udf_volume.proofs.Judged.{eligible_is, bad_is, suffice_is, kept_list_is, other_list_is, agrees_is}
 use Rattle.udf_rules.specs.declared.finding.Place.TheVariants.{Sector}
-use Rattle.udf_rules.specs.Found.{finding_of, findings_by, findings_in, anchor_report, sequence_report}
+use Rattle.udf_rules.specs.Findings.{finding_of, findings_by, findings_in, anchor_report, sequence_report}
 use Rattle.udf_rules.specs.Reported.{anchors_reported, sequences_reported}
 
-map-map : (f : ℕ → Found) (xs : List ℕ) → map finding_of (map f xs) ≡ map (λ x. finding_of (f x)) xs
+map-map : (f : ℕ → Finding) (xs : List ℕ) → map finding_of (map f xs) ≡ map (λ x. finding_of (f x)) xs
 map-map f [] = refl
 map-map f (x ∷ xs) = ap (λ l. finding_of (f x) ∷ l) (map-map f xs)
 
-module _ (size blocks : ℕ) (disk : ℕ → List ℕ) (v : Volume) where
+module _ (size blocks : ℕ) (disk : ℕ → List ℕ) (v : KeptSequence) where
   abbrev E : List ℕ
   E = eligible size blocks v
 
@@ -57,11 +57,11 @@ module _ (size blocks : ℕ) (disk : ℕ → List ℕ) (v : Volume) where
   unfolding sequence_findings
   sequences_are = by_hold (sequences_hold size disk v) _ _ _
 
-map-both : (xs ys : List Found) → map finding_of (xs ++ ys) ≡ map finding_of xs ++ map finding_of ys
+map-both : (xs ys : List Finding) → map finding_of (xs ++ ys) ≡ map finding_of xs ++ map finding_of ys
 map-both [] ys = refl
 map-both (x ∷ xs) ys = ap (λ l. finding_of x ∷ l) (map-both xs ys)
 
-module _ (image : List ℕ) (volume : code.Volume) (v : Volume) (d : Describes volume.size image volume v) where
+module _ (image : List ℕ) (volume : code.Volume) (v : KeptSequence) (d : Describes volume.size image volume v) where
   abbrev size : ℕ
   size = volume.size
 
@@ -95,7 +95,7 @@ module _ (image : List ℕ) (volume : code.Volume) (v : Volume) (d : Describes v
       ∙ sym (ap (findings_by size image) d.found)
 
 -- what is found of a volume that was opened
-pub found_all : (image : List ℕ) (volume : code.Volume) → opened volume.size image ≡ Ok volume
+pub found_all : (image : List ℕ) (volume : code.Volume) → opening volume.size image ≡ Ok volume
     → anchors_reported volume image ++ sequences_reported volume image ≡ findings_in volume.size image
 found_all image volume e = let d = opened_ok volume.size image volume e in found_is image volume d.0 d.1
 

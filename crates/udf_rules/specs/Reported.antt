@@ -4,7 +4,7 @@ use Rattle.udf_volume.specs.Spans.{other_span}
 use Rattle.udf_volume.specs.declared.volume.Volume.{Volume}
 use Rattle.udf_volume.specs.Verdicts.{eligible_stated, bad_stated, anchors_suffice, kept_list, other_list, sequences_agree_in}
 use Rattle.udf_rules.specs.declared.finding.Finding.{Finding}
-use Rattle.udf_rules.specs.Found.{anchor_report, sequence_report}
+use Rattle.udf_rules.specs.Findings.{anchor_report, sequence_report}
 
 unfoldable pub anchors_reported : Volume → List ℕ → List Finding
 anchors_reported volume image = anchor_report (anchors_suffice volume image) (eligible_stated volume) (bad_stated volume image)

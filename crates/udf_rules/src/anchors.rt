@@ -12,7 +12,7 @@ ghost use Rattle.udf_outside.specs.Stops.{bytes_of};
 ghost use Rattle.udf_outside.specs.Reads.{OnlyReads};
 ghost use Rattle.udf_outside.specs.declared.bench.Role.TheVariants.{Image};
 ghost use Rattle.udf_volume.specs.Over.{IsOver};
-ghost use Rattle.udf_rules.specs.Found.{anchor_report};
+ghost use Rattle.udf_rules.specs.Findings.{anchor_report};
 ghost use Rattle.udf_rules.specs.Reported.{anchors_reported};
 
 use crate::{Finding, Findings, Place};
@@ -24,7 +24,7 @@ use udf_volume::{AnchorVerdict, Volume, WorkStop, anchor_verdict};
 const RULE: u8 = 2;
 
 // Adds what is reported of a verdict.
-#[tactic(auto, unfolding(crate::specs::Found::anchor_report))]
+#[tactic(auto, unfolding(crate::specs::Findings::anchor_report))]
 fn report_anchors(findings: &mut Findings, verdict: &AnchorVerdict) -> Result<(), AllocError>
     requires { length verdict.now.bad.items ≤ length verdict.now.eligible.items }
     ensures { OnOk result (findings.new ≡ findings.old

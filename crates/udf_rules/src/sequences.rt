@@ -13,7 +13,7 @@ ghost use Rattle.udf_outside.specs.Reads.{OnlyReads};
 ghost use Rattle.udf_outside.specs.declared.bench.Role.TheVariants.{Image};
 ghost use Rattle.udf_volume.specs.Over.{IsOver};
 ghost use Rattle.udf_volume.specs.Spans.{other_span};
-ghost use Rattle.udf_rules.specs.Found.{sequence_report};
+ghost use Rattle.udf_rules.specs.Findings.{sequence_report};
 ghost use Rattle.udf_rules.specs.Reported.{sequences_reported};
 
 use crate::{Finding, Findings, Place};
@@ -25,7 +25,7 @@ use udf_volume::{SequenceVerdict, Volume, WorkStop, sequence_verdict};
 const RULE: u8 = 3;
 
 // Adds what is reported of a verdict.
-#[tactic(auto, unfolding(crate::specs::Found::sequence_report))]
+#[tactic(auto, unfolding(crate::specs::Findings::sequence_report))]
 fn report_sequences(
     findings: &mut Findings,
     volume: &Volume,

@@ -4,10 +4,10 @@ use Rattle.std.proofs.lemmas.List.{append-nil}
 use Rattle.std.proofs.lemmas.Nat.{div-add-mod'}
 use Rattle.udf_volume.specs.declared.missing.Missing.{Missing}
 use Rattle.udf_volume.specs.declared.volume.Volume.{Volume}
-use Rattle.udf_volume.specs.Opened.{opened}
+use Rattle.udf_volume.specs.Opened.{opening}
 use Rattle.udf_rules.specs.declared.finding.Finding.{Finding}
 use Rattle.udf_top.specs.declared.outcome.Outcome.TheVariants as outcome
-use Rattle.udf_rules.specs.Found.{findings_in}
+use Rattle.udf_rules.specs.Findings.{findings_in}
 use Rattle.udf_top.specs.Texts.{replayed_text}
 use Rattle.udf_top.specs.Udffsck.{by_findings, by_opened, check_of, HoldsFront}
 
@@ -16,11 +16,11 @@ pub fits : (volume : Volume) (size length : ℕ) → 512 ≤ size → volume.siz
 fits volume size length large same blocks =
     let e : length / size * size + length % size ≡ length = div-add-mod' length size in rw (same, blocks) (omega arith)
 
-pub refused : (size : ℕ) (image : List ℕ) (missing : Missing) → opened size image ≡ Err missing → outcome.Refused missing ≡ check_of size image
+pub refused : (size : ℕ) (image : List ℕ) (missing : Missing) → opening size image ≡ Err missing → outcome.Refused missing ≡ check_of size image
 unfolding check_of
 refused size image missing e = sym (ap (λ (r : Result Volume Missing). by_opened r (findings_in size image)) e)
 
-pub examined : (size : ℕ) (image : List ℕ) (findings : List Finding) → ((volume : Volume) × (opened size image ≡ Ok volume)) → findings ≡ findings_in size image
+pub examined : (size : ℕ) (image : List ℕ) (findings : List Finding) → ((volume : Volume) × (opening size image ≡ Ok volume)) → findings ≡ findings_in size image
     → by_findings findings ≡ check_of size image
 unfolding check_of
 examined size image findings (volume, e) is = ap by_findings is ∙ sym (ap (λ (r : Result Volume Missing). by_opened r (findings_in size image)) e)

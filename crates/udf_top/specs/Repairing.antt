@@ -5,7 +5,7 @@ use Rattle.udf_volume_model.specs.Opened.{difference}
 use Rattle.udf_repair_model.specs.Accepted.{mend}
 use Rattle.udf_volume.specs.declared.missing.Missing.{Missing}
 use Rattle.udf_volume.specs.declared.volume.Volume.{Volume}
-use Rattle.udf_volume.specs.Writable.{opened_writable}
+use Rattle.udf_volume.specs.Writable.{writable_opening}
 use Rattle.udf_redo.specs.declared.side.SideState.{SideState}
 use Rattle.udf_redo.specs.declared.side.SideState.TheVariants.{Empty, Closed, Open}
 use Rattle.udf_redo.specs.declared.stop.RedoStop.{RedoStop}
@@ -15,7 +15,7 @@ use Rattle.udf_redo.specs.Settled.{settled, replay_answer}
 use Rattle.udf_rules.specs.declared.finding.Finding.{Finding}
 use Rattle.udf_top.specs.declared.outcome.Outcome.{Outcome}
 use Rattle.udf_top.specs.declared.outcome.Outcome.TheVariants as outcome
-use Rattle.udf_rules.specs.Found.{findings_in}
+use Rattle.udf_rules.specs.Findings.{findings_in}
 use Rattle.udf_top.specs.Texts.{text_of, replayed_text, mend_text}
 
 -- how many blocks of an open log of the image are to be replayed, or why the side file is no log of it
@@ -52,7 +52,7 @@ mend_by (Ok volume) replayed findings written = repaired_as replayed findings wr
 
 -- the outcome of a repair of an image, after a replay of so many blocks
 unfoldable pub mend_of : ℕ → ℕ → List ℕ → Outcome
-mend_of size replayed image = mend_by (opened_writable size image) replayed (findings_in size image) (written_in size image)
+mend_of size replayed image = mend_by (writable_opening size image) replayed (findings_in size image) (written_in size image)
 
 abbrev pub repair_from : ℕ → Result ℕ RedoStop → List ℕ → Outcome
 repair_from size (Err why) image = refused_log why
@@ -69,7 +69,7 @@ text_by_volume medium (Ok volume) findings written = mend_text medium findings w
 
 -- what is printed of an image that is to be repaired
 unfoldable pub mend_said : ℕ → List ℕ → List ℕ → List ℕ
-mend_said size medium image = text_by_volume medium (opened_writable size image) (findings_in size image) (written_in size image)
+mend_said size medium image = text_by_volume medium (writable_opening size image) (findings_in size image) (written_in size image)
 
 abbrev pub said_from : ℕ → List ℕ → List ℕ → Result ℕ RedoStop → List ℕ → List ℕ
 said_from size medium side (Err why) image = text_of side (refused_log why)

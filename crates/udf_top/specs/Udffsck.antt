@@ -6,13 +6,13 @@ use Rattle.udf_volume.specs.declared.missing.Missing.{Missing}
 use Rattle.udf_volume.specs.declared.missing.LayerStop.{LayerStop}
 use Rattle.udf_volume.specs.declared.missing.LayerStop.TheVariants as stops
 use Rattle.udf_volume.specs.declared.volume.Volume.{Volume}
-use Rattle.udf_volume.specs.Opened.{opened}
+use Rattle.udf_volume.specs.Opened.{opening}
 use Rattle.udf_rules.specs.declared.finding.Finding.{Finding}
 use Rattle.udf_top.specs.declared.outcome.Outcome.{Outcome}
 use Rattle.udf_top.specs.declared.outcome.Outcome.TheVariants as outcome
 use Rattle.udf_top.specs.declared.outcome.Cause.{Cause}
 use Rattle.udf_top.specs.Words.{Command, command_in}
-use Rattle.udf_rules.specs.Found.{findings_in}
+use Rattle.udf_rules.specs.Findings.{findings_in}
 use Rattle.udf_top.specs.Texts.{text_of}
 use Rattle.udf_top.specs.Repairing.{repair_of, repair_said}
 
@@ -27,7 +27,7 @@ by_opened (Ok volume) findings = by_findings findings
 
 -- the outcome of a check of an image, where nothing fails: the first refusal that applies, or what breaks the rules
 unfoldable pub check_of : ℕ → List ℕ → Outcome
-check_of size image = by_opened (opened size image) (findings_in size image)
+check_of size image = by_opened (opening size image) (findings_in size image)
 
 -- a check, or a repair with this side file
 abbrev pub outcome_beside : Option (List ℕ) → ℕ → List ℕ → Pair → Outcome
@@ -65,7 +65,7 @@ HoldsFront told before text = (k : ℕ) × (told ≡ Some (before ++ take k text
 
 -- what an examination of an image answers, unless a fault or want of memory came
 abbrev pub Examines : ℕ → List ℕ → Result (List Finding) LayerStop → Type 0
-Examines size image (Ok findings) = ((volume : Volume) × (opened size image ≡ Ok volume)) × (findings ≡ findings_in size image)
-Examines size image (Err (stops.Missing missing)) = opened size image ≡ Err missing
+Examines size image (Ok findings) = ((volume : Volume) × (opening size image ≡ Ok volume)) × (findings ≡ findings_in size image)
+Examines size image (Err (stops.Missing missing)) = opening size image ≡ Err missing
 Examines size image (Err stops.Fault) = Unit {0}
 Examines size image (Err stops.Memory) = Unit {0}

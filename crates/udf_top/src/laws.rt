@@ -3,7 +3,7 @@ ghost use Rattle.std.specs.Prelude.{◌≡◌, ◌≤◌, ℕ, List, true, false
 ghost use Rattle.udf_outside.specs.declared.bench.Role.TheVariants.{Image, Side};
 ghost use Rattle.udf_outside.specs.Stops.{Held, Pair, bytes_of, pair_of};
 ghost use Rattle.udf_repair_model.specs.Accepted.{is_accepted, is_unbroken};
-ghost use Rattle.udf_volume.specs.Opened.{opened};
+ghost use Rattle.udf_volume.specs.Opened.{opening};
 ghost use Rattle.udf_redo.specs.Settled.{settled, IsOpenLog};
 ghost use Rattle.udf_top.specs.Repairing.{replaying, repair_of, target, written_in};
 ghost use Rattle.udf_top.specs.Headline.{IsDone};
@@ -17,8 +17,8 @@ use crate::Outcome;
 /// be repaired, and one that breaks none has no such block.
 pub fn clean_law()
     ensures check { (size : ℕ) (image : List ℕ) → check_of size image ≡ Outcome.Clean
-        → (is_ok (opened size image) ≡ true) × (is_unbroken size image ≡ true) }
-    ensures checked { (size : ℕ) (image : List ℕ) → is_ok (opened size image) ≡ true → is_unbroken size image ≡ true
+        → (is_ok (opening size image) ≡ true) × (is_unbroken size image ≡ true) }
+    ensures checked { (size : ℕ) (image : List ℕ) → is_ok (opening size image) ≡ true → is_unbroken size image ≡ true
         → check_of size image ≡ Outcome.Clean }
     ensures repair { (size : ℕ) (pair : Pair) → repair_of size pair ≡ Outcome.Clean
         → (replaying pair ≡ Ok 0) × ((is_accepted size (settled pair) ≡ true) × (is_unbroken size (settled pair) ≡ true)) }

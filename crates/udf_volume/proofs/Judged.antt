@@ -16,7 +16,7 @@ use Rattle.udf_volume_model.specs.Mended.{block_by, logical_block}
 use Rattle.udf_volume_model.proofs.Listed.{listed_is}
 use Rattle.udf_volume.specs.Seen.{extent_seen}
 use Rattle.udf_volume.specs.Areas.{anchor_stated, areas_stated}
-use Rattle.udf_volume.specs.Spans.{kept_span, other_span, limit_stated, said_in}
+use Rattle.udf_volume.specs.Spans.{kept_span, other_span, limit_stated, views_in}
 use Rattle.udf_volume.specs.Verdicts.{eligible_stated, bad_stated, anchors_suffice, kept_list, other_list, sequences_agree_in}
 use Rattle.udf_volume.specs.Opened.{volume_by, sector_in}
 use Rattle.udf_volume.specs.declared.volume.Volume.{Volume}
@@ -52,16 +52,16 @@ enough_all anchor disk eligible bad answer is few e =
 
 -- the answer of the comparison, by the descriptors that were read
 pub compared : (volume : Volume) (image : List ℕ) (kept others : List Descriptor) (spoilt answer : Bool) → kept ≡ kept_list volume image
-    → others ≡ other_list volume image → spoilt ≡ is_spoilt (said_in volume.size image (other_span volume))
+    → others ≡ other_list volume image → spoilt ≡ is_spoilt (views_in volume.size image (other_span volume))
     → answer ≡ agrees kept (whole_by (limit_stated volume) (cond spoilt None (Some others))) → answer ≡ sequences_agree_in volume image
 unfolding sequence_at
 compared volume image kept others spoilt answer k o s e =
     e ∙ ap (λ l. agrees l (whole_by (limit_stated volume) (cond spoilt None (Some others)))) k
     ∙ ap (λ l. agrees (kept_list volume image) (whole_by (limit_stated volume) (cond spoilt None (Some l)))) o
     ∙ ap (λ b. agrees (kept_list volume image) (whole_by (limit_stated volume) (cond b None (Some (other_list volume image))))) s
-    ∙ ap (λ l. agrees (kept_list volume image) (whole_by (limit_stated volume) l)) (sym (listed_is (said_in volume.size image (other_span volume))))
+    ∙ ap (λ l. agrees (kept_list volume image) (whole_by (limit_stated volume) l)) (sym (listed_is (views_in volume.size image (other_span volume))))
 
-module _ (size : ℕ) (image : List ℕ) (volume : Volume) (v : model.Volume) (d : Describes size image volume v) where
+module _ (size : ℕ) (image : List ℕ) (volume : Volume) (v : model.KeptSequence) (d : Describes size image volume v) where
   pub eligible_is : eligible_stated volume ≡ eligible size (blocks_in size image) v
   unfolding eligible
   eligible_is =

@@ -66,5 +66,5 @@ all_of_part test (n ∷ part) (m ∷ whole) (inr p) e = all_of_part test (n ∷ 
 pub below_of_part : (top : ℕ) (part whole : List ℕ) → IsPart part whole → All (λ at. at < top) whole → All (λ at. at < top) part
 below_of_part top part whole p all =
     let tested : list_all (λ n. ltb n top) part ≡ true = all_of_part (λ n. ltb n top) part whole p
-        (list_all-from_AllPass (λ n. ltb n top) whole (λ k d lt. lt-ltb _ _ (all k d lt))) in
+    (list_all-from_AllPass (λ n. ltb n top) whole (λ k d lt. lt-ltb _ _ (all k d lt))) in
     λ k d lt. ltb-true _ _ (AllPass-from_list_all (λ n. ltb n top) part tested k d lt)

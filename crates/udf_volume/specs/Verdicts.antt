@@ -7,7 +7,7 @@ use Rattle.udf_volume_model.specs.Kept.{sequence_at}
 use Rattle.udf_volume_model.specs.Rules.{ascending_places, is_eligible, is_good, suffice, agrees}
 use Rattle.udf_volume.specs.Seen.{extent_seen}
 use Rattle.udf_volume.specs.Areas.{anchor_stated, areas_stated}
-use Rattle.udf_volume.specs.Spans.{kept_span, other_span, limit_stated, said_in}
+use Rattle.udf_volume.specs.Spans.{kept_span, other_span, limit_stated, views_in}
 use Rattle.udf_volume.specs.declared.volume.Volume.{Volume}
 use Rattle.udf_volume.specs.declared.good_anchors.AnchorVerdict.{AnchorVerdict}
 use Rattle.udf_volume.specs.declared.agreement.SequenceVerdict.{SequenceVerdict}
@@ -26,10 +26,10 @@ anchors_suffice volume image = suffice (anchor_stated volume) (block_of volume.s
 
 -- the descriptors that the kept extent lists, and those that the other one does
 abbrev pub kept_list : Volume → List ℕ → List Descriptor
-kept_list volume image = front_of (said_in volume.size image (kept_span volume))
+kept_list volume image = front_of (views_in volume.size image (kept_span volume))
 
 abbrev pub other_list : Volume → List ℕ → List Descriptor
-other_list volume image = front_of (said_in volume.size image (other_span volume))
+other_list volume image = front_of (views_in volume.size image (other_span volume))
 
 -- the rule on sequences holds
 abbrev pub sequences_agree_in : Volume → List ℕ → Bool

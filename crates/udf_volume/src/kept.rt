@@ -4,7 +4,7 @@ ghost use Rattle.std.specs.List.{AllByRecursion};
 ghost use Rattle.udf_outside.specs.Reads.{OnlyReads};
 ghost use Rattle.udf_outside.specs.Sectors.{disk_of};
 ghost use Rattle.udf_volume_model.specs.Anchor.{names_extents};
-ghost use Rattle.udf_volume_model.specs.Kept.{extent_of, limit_of, has_id, is_complete, whole_by, sequence_at, volume_at, volume_in, has_anchor};
+ghost use Rattle.udf_volume_model.specs.Kept.{extent_of, limit_of, has_id, is_complete, whole_by, sequence_at, kept_sequence_at, kept_sequence_in, has_anchor};
 ghost use Rattle.udf_volume.specs.Seen.{anchor_seen, which_seen};
 ghost use Rattle.udf_volume.specs.Led.{listed_in, kept_as, led_seen, IsLed, Finds, FindsLawful, at_least_unled_of};
 ghost use Rattle.udf_volume.specs.Over.{HasBlocks};
@@ -28,7 +28,7 @@ pub(crate) struct Led {
 
 /// What the places of anchors hold.
 #[derive(Debug, Drop)]
-pub(crate) enum Found {
+pub(crate) enum AnchorSearch {
     /// No whole anchor.
     Nothing,
     /// Whole anchors, none of which leads to a whole sequence.
@@ -36,14 +36,14 @@ pub(crate) enum Found {
     Kept(Led),
 }
 
-impl Found {
-    fn at_least_unled(self) -> Found
+impl AnchorSearch {
+    fn at_least_unled(self) -> AnchorSearch
         ensures { result ≡ at_least_unled_of self }
     {
         match self {
-            Found::Nothing => Found::Unled,
-            Found::Unled => Found::Unled,
-            Found::Kept(led) => Found::Kept(led),
+            AnchorSearch::Nothing => AnchorSearch::Unled,
+            AnchorSearch::Unled => AnchorSearch::Unled,
+            AnchorSearch::Kept(led) => AnchorSearch::Kept(led),
         }
     }
 }
@@ -169,7 +169,7 @@ fn led_by<B: Bench>(
     requires place { at.place < at.blocks }
     requires extents { names_extents at.size at.blocks (anchor_seen at.anchor) ≡ true }
     ensures led { B.tells → IfOk result (λ led. option_map led_seen led
-        ≡ volume_at at.size (disk_of at.size (B.held bench.old)) at.place (Some (anchor_seen at.anchor))) }
+        ≡ kept_sequence_at at.size (disk_of at.size (B.held bench.old)) at.place (Some (anchor_seen at.anchor))) }
     ensures lawful { IfOk result (λ led. IfSome led (IsLed at.size at.blocks)) }
     ensures reads { OnlyReads B.files B.held B.faults bench.old bench.new WorkStop.Fault result }
 {
@@ -188,18 +188,18 @@ pub(crate) fn search<B: Bench>(
     blocks: u32,
     places: &[u32],
     block: &mut [u8],
-) -> Result<Found, WorkStop>
+) -> Result<AnchorSearch, WorkStop>
     requires image { HasBlocks size blocks (B.files bench.old) }
     requires room { length block.old ≡ size }
     requires inside { AllByRecursion (λ at. at < blocks) places.now }
     ensures found { B.tells → IfOk result (Finds
-        (volume_in size blocks (disk_of size (B.held bench.old)) places.now)
+        (kept_sequence_in size blocks (disk_of size (B.held bench.old)) places.now)
         (has_anchor size blocks (disk_of size (B.held bench.old)) places.now)) }
     ensures lawful { IfOk result (FindsLawful size blocks) }
     ensures reads { OnlyReads B.files B.held B.faults bench.old bench.new WorkStop.Fault result }
 {
     let Some((first, rest)) = places.split_first() else {
-        return Ok(Found::Nothing);
+        return Ok(AnchorSearch::Nothing);
     };
     let place = *first;
     read_block(bench, size, place, block)?;
@@ -213,7 +213,7 @@ pub(crate) fn search<B: Bench>(
         anchor,
     };
     if let Some(led) = led_by(alloc, bench, at, block)? {
-        return Ok(Found::Kept(led));
+        return Ok(AnchorSearch::Kept(led));
     }
     Ok(search(alloc, bench, size, blocks, rest, block)?.at_least_unled())
 }

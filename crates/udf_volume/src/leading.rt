@@ -4,8 +4,8 @@ ghost use Rattle.udf_volume_model.specs.Kept.{has_id};
 ghost use Rattle.udf_volume_model.specs.Prevailing.{prevailing_index as index_of};
 ghost use Rattle.udf_volume.specs.Leads.{IsLeading};
 
-use crate::descriptor::{IMPLEMENTATION_USE, LOGICAL_VOLUME, PARTITION, PRIMARY};
 use crate::Descriptor;
+use crate::descriptor::{IMPLEMENTATION_USE, LOGICAL_VOLUME, PARTITION, PRIMARY};
 use crate::prevailing::{best_of, prevailing_index};
 use crate::profile::map_number;
 

@@ -13,13 +13,15 @@ ghost use Rattle.udf_volume.specs.Laid.{IsLaidOut};
 ghost use Rattle.udf_volume.specs.Leads.{IsLeading};
 ghost use Rattle.udf_volume.specs.Led.{IsLed, led_seen};
 ghost use Rattle.udf_volume.specs.Refusals.{RefusesVolume};
-ghost use Rattle.udf_volume.specs.Opened.{volume_by, stated_in, sector_in, bitmap_in, is_guarded, accepted, opened, Answers, IsBounded};
+ghost use Rattle.udf_volume.specs.Opened.{volume_by, stated_in, sector_in, bitmap_in, is_guarded as is_guarded_by, accepted, opening, Answers, IsBounded};
 ghost use Rattle.udf_volume.specs.Over.{HasBlocks};
 
 use crate::anchor::places_of;
-use crate::kept::{Found, Led, search};
+use crate::kept::{AnchorSearch, Led, search};
 use crate::layout::is_lawful;
-use crate::offset::{ACCESS, FILE_SET, INTEGRITY, LENGTH, PROTECTION, REVISION, SPACE_BITMAP, START};
+use crate::offset::{
+    ACCESS, FILE_SET, INTEGRITY, LENGTH, PROTECTION, REVISION, SPACE_BITMAP, START,
+};
 use crate::profile::{has_one_map, unlike_profile};
 use crate::{Descriptor, LayerStop, Missing, ProfileItem, Shape, Upper, Volume};
 use std::alloc::Global;
@@ -69,8 +71,8 @@ fn information_sector(led: &Led) -> Option<u32>
 
 // Whether a bit of write protection stands.
 #[tactic(auto, unfolding(crate::specs::Opened::is_guarded))]
-fn is_protected(flags: u8) -> bool
-    ensures { result ≡ is_guarded flags }
+fn is_guarded(flags: u8) -> bool
+    ensures { result ≡ is_guarded_by flags }
 {
     flags & PROTECTION_BITS != 0
 }
@@ -112,7 +114,7 @@ fn volume_of(led: &Led, size: u32, blocks: u32, logical: &Descriptor, at: usize)
         file_set: logical_fields.long_at(FILE_SET),
         revision: logical_fields.u16_at(REVISION),
         access: partition_fields.u32_at(ACCESS),
-        guarded: is_protected(logical_fields.u8_at(PROTECTION)),
+        guarded: is_guarded(logical_fields.u8_at(PROTECTION)),
     }
 }
 
@@ -176,7 +178,7 @@ pub fn open_volume<B: Bench>(
     requires attached { IsAttached Image (B.files bench.old) }
     requires large { 512 ≤ size }
     requires sized { length ≡ (B.files bench.old).image.size }
-    ensures answers { B.tells → Answers (opened size (bytes_of Image (B.held bench.old))) result }
+    ensures answers { B.tells → Answers (opening size (bytes_of Image (B.held bench.old))) result }
     ensures refusal { IfErr result RefusesVolume }
     ensures bounds { IfOk result (IsBounded size (length / size)) }
     ensures areas { IfOk result IsLaidOut }
@@ -190,8 +192,8 @@ pub fn open_volume<B: Bench>(
     let places = places_of(alloc, blocks)?;
     let mut block = vec![in alloc; 0u8; size as usize]?;
     match search(alloc, bench, size, blocks, &places, &mut block)? {
-        Found::Nothing => Err(LayerStop::Missing(Missing::Anchor)),
-        Found::Unled => Err(LayerStop::Missing(Missing::Sequence)),
-        Found::Kept(led) => accept(alloc, bench, size, blocks, &led, &mut block),
+        AnchorSearch::Nothing => Err(LayerStop::Missing(Missing::Anchor)),
+        AnchorSearch::Unled => Err(LayerStop::Missing(Missing::Sequence)),
+        AnchorSearch::Kept(led) => accept(alloc, bench, size, blocks, &led, &mut block),
     }
 }

@@ -7,9 +7,9 @@ ghost use Rattle.udf_outside.specs.Sectors.{disk_of};
 ghost use Rattle.udf_outside.specs.declared.bench.Role.TheVariants.{Image};
 ghost use Rattle.udf_volume_model.specs.Sequence.{is_listed, other_view, view_of, views, front_of, is_spoilt};
 ghost use Rattle.udf_volume_model.specs.Anchor.{is_extent};
-ghost use Rattle.udf_volume.specs.Says.{said};
+ghost use Rattle.udf_volume.specs.Views.{view_seen};
 ghost use Rattle.udf_volume.specs.Seen.{extent_seen};
-ghost use Rattle.udf_volume.specs.Spans.{said_in};
+ghost use Rattle.udf_volume.specs.Spans.{views_in};
 ghost use Rattle.udf_volume.specs.Over.{HasBlocks, IsOver};
 
 use crate::descriptor::{
@@ -29,7 +29,7 @@ pub struct DescriptorList {
 
 /// What a block says in a sequence.
 #[derive(Debug, Drop)]
-enum Says {
+enum View {
     End,
     Spoiled,
     Listed(Descriptor),
@@ -54,27 +54,27 @@ fn is_volume_descriptor(id: u16) -> bool
 
 // What a block says that is neither terminator nor descriptor.
 #[tactic(auto, unfolding(udf_volume_model::specs::Sequence::other_view))]
-fn other(block: &[u8]) -> Says
-    ensures { said result ≡ other_view block.now }
+fn other(block: &[u8]) -> View
+    ensures { view_seen result ≡ other_view block.now }
 {
     if all_zeros(block) {
-        Says::End
+        View::End
     } else {
-        Says::Spoiled
+        View::Spoiled
     }
 }
 
 #[tactic(auto, unfolding(udf_volume_model::specs::Sequence::view_of))]
-fn what_it_says(alloc: Global, block: &[u8]) -> Result<Says, AllocError>
+fn read_view(alloc: Global, block: &[u8]) -> Result<View, AllocError>
     requires { 512 ≤ length block.now }
-    ensures { IfOk result (λ told. said told ≡ view_of block.now) }
+    ensures { IfOk result (λ view. view_seen view ≡ view_of block.now) }
 {
     match whole_id(block) {
         None => Ok(other(block)),
-        Some(TERMINATING) => Ok(Says::End),
+        Some(TERMINATING) => Ok(View::End),
         Some(id) => {
             if is_volume_descriptor(id) {
-                Ok(Says::Listed(Descriptor::of(alloc, id, block)?))
+                Ok(View::Listed(Descriptor::of(alloc, id, block)?))
             } else {
                 Ok(other(block))
             }
@@ -106,16 +106,16 @@ pub fn read_descriptors<B: Bench>(
     let mut descriptors = Vec::new(alloc);
     for i in 0..count {
         read_block(bench, size, start + i, block)?;
-        match what_it_says(alloc, block)? {
-            Says::End => return Ok(DescriptorList {
+        match read_view(alloc, block)? {
+            View::End => return Ok(DescriptorList {
                 descriptors,
                 is_spoilt: false,
             }),
-            Says::Spoiled => return Ok(DescriptorList {
+            View::Spoiled => return Ok(DescriptorList {
                 descriptors,
                 is_spoilt: true,
             }),
-            Says::Listed(descriptor) => descriptors.push(descriptor)?,
+            View::Listed(descriptor) => descriptors.push(descriptor)?,
         }
     }
     Ok(DescriptorList {
@@ -137,9 +137,9 @@ pub fn read_sequence<B: Bench>(
     requires room { length block.old ≡ volume.now.size }
     requires extent { is_extent volume.now.size volume.now.blocks (extent_seen extent) ≡ true }
     ensures front { B.tells → IfOk result (λ list. list.descriptors.items
-        ≡ front_of (said_in volume.now.size (bytes_of Image (B.held bench.old)) extent)) }
+        ≡ front_of (views_in volume.now.size (bytes_of Image (B.held bench.old)) extent)) }
     ensures spoilt { B.tells → IfOk result (λ list. list.is_spoilt
-        ≡ is_spoilt (said_in volume.now.size (bytes_of Image (B.held bench.old)) extent)) }
+        ≡ is_spoilt (views_in volume.now.size (bytes_of Image (B.held bench.old)) extent)) }
     ensures reads { OnlyReads B.files B.held B.faults bench.old bench.new WorkStop.Fault result }
 {
     let count = volume.blocks_of(extent);

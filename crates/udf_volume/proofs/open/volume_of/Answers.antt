@@ -39,5 +39,5 @@ returns c = λ described here.
       file_set = (c.long_at.ensures ∙ ap (λ b. long_at b 232) logical) i;
       revision = (c.u16_at.ensures ∙ ap (λ b. number_at 2 b 224) logical) i;
       access = (c.u32_at-3.ensures ∙ ap (λ b. number_at 4 b 168) partition) i;
-      guarded = (c.is_protected.ensures ∙ ap is_guarded (c.u8_at.ensures ∙ ap (λ b. slice_index b 226) logical)) i;
+      guarded = (c.is_guarded.ensures ∙ ap is_guarded (c.u8_at.ensures ∙ ap (λ b. slice_index b 226) logical)) i;
     }
