@@ -7,7 +7,6 @@ ghost use Rattle.udf_outside.specs.Stops.{Held, bytes_of, slice_of, Writes, Sync
 ghost use Rattle.udf_outside.specs.Causes.{HasCause};
 ghost use Rattle.udf_outside.specs.Reads.{OnlyReads, failed};
 ghost use Rattle.udf_outside.specs.Sectors.{disk_of};
-ghost use Rattle.udf_model.specs.Image.{block_of};
 
 /// The two files of a bench: the image of a volume, and the side file that holds the log of a repair.
 #[derive(Clone, Copy, Debug, PartialEq, Eq)]

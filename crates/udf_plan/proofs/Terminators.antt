@@ -1,5 +1,5 @@
 -- A terminator, byte by byte.
-use Rattle.std.proofs.Common.{◌≡◌, ℕ, suc, ◌-◌, ◌≤◌, arith, refl, sym, ◌∙◌, ap, List, [], ◌∷◌, get_or, replicate, cond, true, false, Option, Some, None}
+use Rattle.std.proofs.Common.{◌≡◌, ℕ, suc, ◌-◌, ◌≤◌, arith, sym, ◌∙◌, ap, List, ◌∷◌, get_or, replicate, cond, true, false}
 use Rattle.std.proofs.Math.ListN.{set}
 use Rattle.udf_model.specs.Tag.{whole_id, is_id, relocated, retagged}
 use Rattle.udf_volume_model.specs.Mended.{terminator, end_block}

@@ -3,7 +3,7 @@ use Rattle.std.proofs.Common.{◌≡◌, ℕ, ◌-◌, ◌≤◌, arith, refl, s
 use Rattle.udf_model.specs.Image.{block_of, blocks_in}
 use Rattle.udf_volume_model.specs.Sequence.{Descriptor, views, front_of}
 use Rattle.udf_volume_model.specs.Anchor.{Extent, blocks_of}
-use Rattle.udf_volume_model.specs.Kept.{KeptSequence, other, kept_sequence_of}
+use Rattle.udf_volume_model.specs.Kept.{KeptSequence, other}
 use Rattle.udf_volume_model.specs.Rules as model
 use Rattle.udf_volume_model.specs.Rules.{Finding, eligible, is_good, good_of, bad_of, anchors_hold, anchor_findings, sequences_hold, sequence_findings, findings}
 use Rattle.udf_volume.specs.declared.volume.Volume as code

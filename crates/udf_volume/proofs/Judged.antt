@@ -1,11 +1,11 @@
 -- The verdicts of the rules, from what was read; and what they say of a volume of the image.
-use Rattle.std.proofs.Common.{◌≡◌, ℕ, ◌+◌, ◌-◌, ◌<◌, ◌≤◌, arith, refl, sym, ◌∙◌, ap, List, [], ◌∷◌, length, Bool, true, false, not, cond, ◌||◌, Option, Some, None, eqb, leb}
+use Rattle.std.proofs.Common.{◌≡◌, ℕ, ◌+◌, ◌-◌, ◌<◌, ◌≤◌, arith, refl, sym, ◌∙◌, ap, List, [], length, Bool, true, false, not, cond, ◌||◌, Option, Some, None, eqb, leb}
 use Rattle.std.specs.Prelude.{unwrap_or, option_map}
-use Rattle.std.specs.List.{list_all, filter}
+use Rattle.std.specs.List.{filter}
 use Rattle.std.proofs.lemmas.Bool.{le-leb, lt-leb}
 use Rattle.udf_model.specs.Image.{block_of, blocks_in}
 use Rattle.udf_volume_model.specs.Sequence.{Descriptor, views, front_of, is_spoilt}
-use Rattle.udf_volume_model.specs.Prevailing.{prevailing, prevailing_index}
+use Rattle.udf_volume_model.specs.Prevailing.{prevailing_index}
 use Rattle.udf_volume_model.specs.Anchor.{Extent, Anchor, blocks_of, blocks_for}
 use Rattle.udf_volume_model.specs.Kept as model
 use Rattle.udf_volume_model.specs.Kept.{kept, other, limit_of, whole_by, sequence_at}
@@ -15,7 +15,6 @@ use Rattle.udf_volume_model.specs.Profile.{has_block_size}
 use Rattle.udf_volume_model.specs.Mended.{block_by, logical_block}
 use Rattle.udf_volume_model.proofs.Listed.{listed_is}
 use Rattle.udf_volume.specs.Seen.{extent_seen}
-use Rattle.udf_volume.specs.Areas.{anchor_stated, areas_stated}
 use Rattle.udf_volume.specs.Spans.{kept_span, other_span, limit_stated, views_in}
 use Rattle.udf_volume.specs.Verdicts.{eligible_stated, bad_stated, anchors_suffice, kept_list, other_list, sequences_agree_in}
 use Rattle.udf_volume.specs.Opened.{volume_by, sector_in}

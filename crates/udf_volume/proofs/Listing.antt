@@ -1,5 +1,5 @@
 -- A list that is read is the list of the definitions.
-use Rattle.std.proofs.Common.{◌≡◌, ℕ, refl, sym, ◌∙◌, ap, List, Bool, cond, Option, Some, None}
+use Rattle.std.proofs.Common.{◌≡◌, ℕ, sym, ◌∙◌, ap, List, Bool, cond, Option, Some, None}
 use Rattle.std.specs.Prelude.{if◌then◌else◌}
 use Rattle.udf_volume_model.specs.Sequence.{Descriptor, listed, views, front_of, is_spoilt}
 use Rattle.udf_volume_model.specs.Anchor.{blocks_of}

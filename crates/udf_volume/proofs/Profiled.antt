@@ -1,7 +1,6 @@
 -- The tests of the profile, by the prevailing logical volume descriptor and the partition descriptor.
-use Rattle.std.proofs.Common.{◌≡◌, ◌≢◌, ℕ, ◌≤◌, arith, refl, sym, ◌∙◌, ap, List, [], Bool, true, false, not, cond, ◌&&◌, Option, Some, None, eqb, leb, drop, take}
+use Rattle.std.proofs.Common.{◌≡◌, ◌≢◌, ℕ, ◌≤◌, arith, refl, sym, ◌∙◌, ap, List, [], Bool, true, false, not, cond, ◌&&◌, Option, Some, None, eqb}
 use Rattle.std.specs.Prelude.{is_some}
-use Rattle.std.specs.Str.{bytes_eq}
 use Rattle.std.proofs.lemmas.Bool.{ne_eqb}
 use Rattle.udf_model.specs.Bytes as bytes
 use Rattle.udf_volume_model.specs.Sequence.{Descriptor}

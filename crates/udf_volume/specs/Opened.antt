@@ -1,8 +1,8 @@
 -- What `open_volume` answers.
-use Rattle.std.specs.Prelude.{◌≡◌, ◌⊎◌, ℕ, Bool, ◌≤◌, ◌<◌, ◌+◌, ◌-◌, ◌^◌, ◌%◌, ◌==◌, ◌&&◌, not, nat_lt, if◌then◌else◌, List, [], length, Option, Some, None, option_map, unwrap_or, true, Result, Ok, Err, slice_index}
+use Rattle.std.specs.Prelude.{◌≡◌, ◌⊎◌, ℕ, Bool, ◌≤◌, ◌<◌, ◌+◌, ◌-◌, ◌^◌, ◌%◌, ◌==◌, not, nat_lt, if◌then◌else◌, List, [], length, Option, Some, None, option_map, unwrap_or, true, Result, Ok, Err, slice_index}
 use Rattle.udf_model.specs.Image.{block_of, blocks_in}
 use Rattle.udf_volume_model.specs.Prevailing.{number_in, prevailing_index}
-use Rattle.udf_volume_model.specs.Anchor.{places, blocks_of, is_extent}
+use Rattle.udf_volume_model.specs.Anchor.{places, is_extent}
 use Rattle.udf_volume_model.specs.Kept as model_kept
 use Rattle.udf_volume_model.specs.Kept.{kept, kept_sequence_of, has_anchor}
 use Rattle.udf_volume_model.specs.Sequence.{Descriptor}
@@ -10,7 +10,6 @@ use Rattle.udf_volume_model.specs.Profile.{has_block_size, has_domain, has_revis
 use Rattle.udf_volume_model.specs.Layout.{is_lawful}
 use Rattle.udf_volume_model.specs.Stated.{map_number, logical, partition, is_built, volume_information}
 use Rattle.udf_field.specs.FieldView.{short_at, long_at, span_at}
-use Rattle.udf_field.specs.declared.address.Span.{Span}
 use Rattle.udf_field.specs.declared.address.Short.{Short}
 use Rattle.udf_volume.specs.Seen.{extent_seen, span_of}
 use Rattle.udf_volume.specs.Spans.{kept_span, limit_stated}

@@ -15,7 +15,8 @@ ghost use Rattle.udf_volume.specs.Verdicts.{JudgesSequences};
 
 use crate::kept::is_complete_list;
 use crate::ranked::Ranked;
-use crate::{Descriptor, DescriptorList, Volume, WorkStop, read_sequence};
+use crate::sequence::read_sequence;
+use crate::{Descriptor, DescriptorList, Volume, WorkStop};
 use std::alloc::{AllocError, Global};
 use udf_outside::Bench;
 

@@ -1,7 +1,8 @@
 //! The volume of an image: its anchors, the kept descriptor sequence, and what the prevailing descriptors state.
 //! Towards the layer above: `open_volume` answers the first refusal that applies, or a `Volume` whose every field is what
 //! the descriptors state; `open_writable` refuses a protected volume too; `read_descriptors` gives the list of
-//! an extent. It stands on fields and tags, on the bench, and on the definitions of volumes.
+//! an extent; `anchor_verdict` and `sequence_verdict` judge a volume by the rules, for the check and for the planner. It stands
+//! on fields and tags, on the bench, and on the definitions of volumes.
 #![tactic(auto)]
 
 mod agreement;
@@ -30,6 +31,6 @@ pub use descriptor::{Descriptor, TERMINATING};
 pub use good_anchors::{AnchorVerdict, anchor_verdict};
 pub use missing::{LayerStop, Missing, ProfileItem, WorkStop};
 pub use open::open_volume;
-pub use sequence::{DescriptorList, read_descriptors, read_sequence};
+pub use sequence::{DescriptorList, read_descriptors};
 pub use volume::{MetaMap, Shape, SparingMap, Upper, Volume, Which};
 pub use writable::{open_writable, opened_law};

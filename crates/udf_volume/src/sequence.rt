@@ -126,7 +126,7 @@ pub fn read_descriptors<B: Bench>(
 
 /// The descriptors of the list that begins one of a volume's sequence extents. `block` is lent and has the block size.
 #[tactic(auto, using(crate::proofs::Extents::fits, crate::proofs::Extents::in_numbers))]
-pub fn read_sequence<B: Bench>(
+pub(crate) fn read_sequence<B: Bench>(
     alloc: Global,
     bench: &mut B,
     volume: &Volume,

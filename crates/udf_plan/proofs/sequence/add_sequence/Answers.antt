@@ -1,4 +1,4 @@
-use Rattle.std.proofs.Common.{◌≡◌, ◌++◌, ℕ, List, ap, sym, ◌∙◌}
+use Rattle.std.proofs.Common.{◌++◌, ℕ, List, ap, sym, ◌∙◌}
 use Rattle.udf_outside.specs.Stops.{Held, bytes_of}
 use Rattle.udf_outside.specs.declared.bench.Role.TheVariants.{Image}
 use Rattle.udf_plan.specs.Stated.{copied, ended}

@@ -4,7 +4,7 @@ use Rattle.udf_outside.specs.Stops.{bytes_of}
 use Rattle.udf_outside.specs.declared.bench.Role.TheVariants.{Image}
 use Rattle.udf_volume_model.specs.Rules.{is_good, suffice}
 use Rattle.udf_volume.specs.Areas.{anchor_stated}
-use Rattle.udf_volume.specs.Verdicts.{eligible_stated, bad_stated}
+use Rattle.udf_volume.specs.Verdicts.{eligible_stated}
 use Rattle.udf_volume.proofs.Parts.{shorter}
 use Rattle.udf_volume.proofs.good_anchors.anchor_verdict.Goals as goal
 
