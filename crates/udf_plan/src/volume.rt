@@ -1,11 +1,10 @@
 //! The plan of a volume for the rules on anchors (ECMA-167 3/8.4.2.1) and on sequences (3/8.4.2, 3/8.4.3).
-ghost use Rattle.std.specs.Prelude.{◌≡◌, ◌*◌, ◌≤◌, ◌<◌, length, filter, nat_lt, nat_le, OnOk, IfOk, IsErrOf, Ok, true, [], not};
-ghost use Rattle.std.specs.List.{All};
+ghost use Rattle.std.specs.Prelude.{◌≡◌, ◌<◌, length, filter, nat_lt, nat_le, OnOk, IfOk, Ok, true, [], not};
 ghost use Rattle.udf_outside.specs.Stops.{bytes_of};
 ghost use Rattle.udf_outside.specs.Reads.{OnlyReads};
 ghost use Rattle.udf_outside.specs.declared.bench.Role.TheVariants.{Image};
 ghost use Rattle.udf_volume_model.specs.Areas.{covers};
-ghost use Rattle.udf_volume_model.specs.Opened.{is_opened, volume_mended, plan_of};
+ghost use Rattle.udf_volume_model.specs.Opened.{volume_mended, plan_of};
 ghost use Rattle.udf_volume.specs.Laid.{IsLaidOut};
 ghost use Rattle.udf_volume.specs.Opened.{opening};
 ghost use Rattle.udf_blocks.specs.Planned.{are_at, are_below};

@@ -1,15 +1,10 @@
 //! All rules that are built, in their order.
-ghost use Rattle.std.specs.Prelude.{◌≡◌, ◌*◌, ◌≤◌, ◌<◌, ◌^◌, ◌++◌, length, map, IfOk, OnOk, IsErrOf, Ok};
+ghost use Rattle.std.specs.Prelude.{◌≡◌, IfOk, Ok};
 ghost use Rattle.udf_outside.specs.Stops.{bytes_of};
 ghost use Rattle.udf_outside.specs.Reads.{OnlyReads};
 ghost use Rattle.udf_outside.specs.declared.bench.Role.TheVariants.{Image};
 ghost use Rattle.udf_volume.specs.Opened.{opening};
-ghost use Rattle.udf_volume_model.specs.Kept.{whole_by};
-ghost use Rattle.udf_volume_model.specs.Rules.{agrees};
-ghost use Rattle.udf_volume.specs.Led.{listed_in};
-ghost use Rattle.udf_volume.specs.Spans.{other_span, limit_stated};
-ghost use Rattle.udf_rules.specs.Findings.{findings_in, anchor_report, sequence_report};
-ghost use Rattle.udf_rules.specs.Reported.{anchors_reported, sequences_reported};
+ghost use Rattle.udf_rules.specs.Findings.{findings_in};
 ghost use Rattle.udf_volume.specs.Over.{IsOver};
 
 use crate::Findings;

@@ -1,6 +1,6 @@
 //! The verdict of the rule on sequences (ECMA-167 3/8.4.2, 3/8.4.3): whether the sequence that was not kept is whole, and the
 //! same descriptors prevail in it. It reads the extents of both sequences once.
-ghost use Rattle.std.specs.Prelude.{◌≡◌, ◌≤◌, length, IfOk, ◌==◌, ◌&&◌};
+ghost use Rattle.std.specs.Prelude.{◌≡◌, length, IfOk, ◌==◌, ◌&&◌};
 ghost use Rattle.std.specs.List.{list_all};
 ghost use Rattle.std.specs.Str.{bytes_eq};
 ghost use Rattle.std.specs.Option.{option_copied};

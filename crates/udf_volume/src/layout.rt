@@ -1,11 +1,11 @@
 //! The lawful layout of a volume's areas.
-ghost use Rattle.std.specs.Prelude.{◌≡◌, ◌*◌, ◌≤◌, ◌<◌, ◌^◌, length, map, IfOk, IsErrOf, true};
+ghost use Rattle.std.specs.Prelude.{◌≡◌, ◌≤◌, ◌<◌, length, map, IfOk, true};
 ghost use Rattle.std.specs.List.{AllByRecursion, list_all};
 ghost use Rattle.udf_outside.specs.Reads.{OnlyReads, failed};
 ghost use Rattle.udf_outside.specs.Sectors.{disk_of};
 ghost use Rattle.udf_volume_model.specs.Layout.{is_apart as apart, are_apart as all_apart, is_inside as inside, is_bitmap as bitmap_holds, earlier, is_passed};
 ghost use Rattle.udf_volume.specs.Areas.{area_seen};
-ghost use Rattle.udf_volume.specs.Laid.{is_bitmap_at, areas_laid, places_laid, is_laid as laid, IsLaidOut};
+ghost use Rattle.udf_volume.specs.Laid.{is_bitmap_at, areas_laid, is_laid as laid, IsLaidOut};
 ghost use Rattle.udf_volume.specs.Over.{IsOver};
 
 use crate::anchor::{anchor_of, blocks_of, places_of};

@@ -1,5 +1,5 @@
 //! A volume from an image: the first refusal that applies, or what the prevailing descriptors state.
-ghost use Rattle.std.specs.Prelude.{◌≡◌, ◌+◌, ◌*◌, ◌/◌, ◌≤◌, ◌<◌, ◌^◌, ℕ, length as length_of, IfOk, IfErr, IfSome, if◌then◌else◌, Some, None, slice_index, slice_get, take, drop};
+ghost use Rattle.std.specs.Prelude.{◌≡◌, ◌+◌, ◌/◌, ◌≤◌, ◌<◌, ◌^◌, length as length_of, IfOk, IfErr, IfSome, Some, None, slice_get};
 ghost use Rattle.udf_outside.specs.Files.{IsAttached};
 ghost use Rattle.udf_outside.specs.Stops.{bytes_of};
 ghost use Rattle.udf_outside.specs.Reads.{OnlyReads};
