@@ -1,6 +1,7 @@
 pub mod Files
 pub mod Causes
 pub mod Stops
+pub mod Sectors
 pub mod Written
 pub mod Numbered
 pub mod SinkInMemory

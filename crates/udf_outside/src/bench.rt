@@ -6,7 +6,7 @@ ghost use Rattle.udf_outside.specs.Files.{Files, file_of, IsAttached, IsWritable
 ghost use Rattle.udf_outside.specs.Stops.{Held, bytes_of, slice_of, Writes, Syncs};
 ghost use Rattle.udf_outside.specs.Causes.{HasCause};
 ghost use Rattle.udf_outside.specs.Reads.{OnlyReads, failed};
-ghost use Rattle.udf_model.specs.Image.{block_of};
+ghost use Rattle.udf_outside.specs.Sectors.{disk_of};
 
 /// The two files of a bench: the image of a volume, and the side file that holds the log of a repair.
 #[derive(Clone, Copy, Debug, PartialEq, Eq)]
@@ -101,7 +101,7 @@ pub fn read_block<B: Bench>(
     requires attached { IsAttached Image (B.files bench.old) }
     requires within { (sector + 1) * size ≤ (B.files bench.old).image.size }
     requires room { length_of into.old ≡ size }
-    ensures block { B.tells → OnOk result (into.new ≡ block_of size (bytes_of Image (B.held bench.old)) sector) }
+    ensures block { B.tells → OnOk result (into.new ≡ disk_of size (B.held bench.old) sector) }
     ensures reads { OnlyReads B.files B.held B.faults bench.old bench.new failed result }
 {
     bench.read_at(Role::Image, sector as u64 * size as u64, into)

@@ -7,11 +7,8 @@ use Rattle.std.proofs.lemmas.List.{append-nil, take_more}
 use Rattle.std.proofs.lemmas.List.Sums.{AllPass-from_list_all}
 use Rattle.std.proofs.lemmas.List.Folds.{list_all-append}
 use Rattle.udf_model.specs.Tag.{relocated}
-use Rattle.udf_volume_model.specs.Anchor.{Anchor}
-use Rattle.udf_volume_model.specs.Rules.{is_good}
-use Rattle.udf_volume_laws.proofs.Same.{bytes_same}
 use Rattle.udf_blocks.specs.Planned.{Planned, are_at, are_below}
-use Rattle.udf_plan.specs.Changes.{changes, anchor_after, copy_after, KeepsTo, AscendFrom}
+use Rattle.udf_plan.specs.Changes.{changes, copy_after, KeepsTo, AscendFrom}
 use Rattle.udf_blocks.proofs.Growing.{at_more}
 
 alike : (disk after : ℕ → List ℕ) (n : ℕ) → bytes_eq (disk n) (after n) ≡ true → changes disk after (n ∷ []) ≡ []
@@ -34,11 +31,6 @@ pub one_added : (plan next : Planned) (sector : ℕ) (now wanted : List ℕ) →
 one_added plan next sector now wanted e is =
     is ∙ sym (ap (λ more. record { size = plan.size; blocks = plan.blocks ++ more }) (other (λ _. now) (λ _. wanted) sector e))
 
--- a sector whose block stays adds nothing
-pub stays : (disk after : ℕ → List ℕ) (n : ℕ) (blocks : List (ℕ × List ℕ)) → after n ≡ disk n → blocks ≡ blocks ++ changes disk after (n ∷ [])
-stays disk after n blocks e =
-    sym (ap (λ more. blocks ++ more) (alike disk after n (ap (bytes_eq (disk n)) e ∙ bytes_same (disk n))) ∙ append-nil blocks)
-
 -- what was compared is what stands on the disk, and what is to stand there
 pub compared : (disk after : ℕ → List ℕ) (n : ℕ) (now wanted : List ℕ) → now ≡ disk n → wanted ≡ after n
     → changes (λ _. now) (λ _. wanted) (n ∷ []) ≡ changes disk after (n ∷ [])
@@ -50,12 +42,6 @@ compared disk after n now wanted e f =
       by_test : (b : Bool) → map {B = ℕ × List ℕ} (λ m. (m, after n)) (cond b (n ∷ []) []) ≡ map {B = ℕ × List ℕ} (λ m. (m, after m)) (cond b (n ∷ []) [])
       by_test true = refl
       by_test false = refl
-
-pub good_after : (disk : ℕ → List ℕ) (anchor : Anchor) (kept : List ℕ) (n : ℕ) → is_good anchor n (disk n) ≡ true → anchor_after disk anchor kept n ≡ disk n
-good_after disk anchor kept n e = ap (λ b. cond b (disk n) (relocated n kept)) e
-
-pub bad_after : (disk : ℕ → List ℕ) (anchor : Anchor) (kept : List ℕ) (n : ℕ) → is_good anchor n (disk n) ≡ false → anchor_after disk anchor kept n ≡ relocated n kept
-bad_after disk anchor kept n e = ap (λ b. cond b (disk n) (relocated n kept)) e
 
 -- more sectors add more
 pub changes_both : (disk after : ℕ → List ℕ) (xs ys : List ℕ) → changes disk after (xs ++ ys) ≡ changes disk after xs ++ changes disk after ys

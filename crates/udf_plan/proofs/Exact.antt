@@ -1,19 +1,17 @@
 -- What is added to a plan of the image's volume is exactly the difference of the mended image.
-use Rattle.std.proofs.Common.{◌≡◌, ◌⊎◌, inl, inr, ℕ, ◌+◌, ◌-◌, ◌<◌, ◌≤◌, arith, refl, sym, ◌∙◌, ap, List, [], ◌∷◌, ◌++◌, length, map, Bool, true, false, cond, not, ◌||◌, eqb, leb, ltb, Option, Some, None}
-use Rattle.std.specs.Prelude.{option_map}
+use Rattle.std.proofs.Common.{◌≡◌, ◌⊎◌, inl, inr, ℕ, ◌+◌, ◌-◌, ◌<◌, ◌≤◌, arith, refl, sym, ◌∙◌, ap, List, [], ◌∷◌, ◌++◌, length, map, Bool, true, false, cond, not, eqb, leb, ltb, Some, None}
 use Rattle.std.specs.List.{filter, range_with_len}
 use Rattle.std.specs.Str.{bytes_eq}
-use Rattle.std.proofs.lemmas.Bool.{cases_Bool, cases_lt, cases_eq, le-leb, lt-ltb, eq-eqb, ne_eqb}
+use Rattle.std.proofs.lemmas.Bool.{and_parts, cases_Bool, cases_lt, cases_eq, le-leb, lt-ltb, eq-eqb, ne_eqb}
 use Rattle.udf_model.specs.Tag.{relocated}
 use Rattle.udf_model.specs.Image.{block_of, blocks_in}
-use Rattle.udf_volume_model.specs.Sequence.{views, front_of}
-use Rattle.udf_volume_model.specs.Prevailing.{prevailing_index}
-use Rattle.udf_volume_model.specs.Anchor.{Extent, Anchor, blocks_of, blocks_for}
+use Rattle.udf_volume_model.specs.Anchor.{Extent}
 use Rattle.udf_volume_model.specs.Kept as model
-use Rattle.udf_volume_model.specs.Kept.{kept, other, limit_of, sequence_at}
-use Rattle.udf_volume_model.specs.Areas.{areas_of}
-use Rattle.udf_volume_model.specs.Rules.{ascending_places, is_eligible, eligible, is_good, good_of, bad_of, anchors_hold, sequences_hold, agrees}
-use Rattle.udf_volume_model.specs.Mended.{block_by, logical_block, end_block}
+use Rattle.udf_volume_model.specs.Kept.{kept, other, kept_sequence_of}
+use Rattle.udf_volume_model.specs.Rules.{eligible, bad_of, anchors_hold, sequences_hold}
+use Rattle.udf_volume_model.specs.Profile.{has_block_size, is_profile}
+use Rattle.udf_volume_model.specs.Layout.{is_lawful}
+use Rattle.udf_volume_model.specs.Mended.{logical_block, end_block}
 use Rattle.udf_volume_model.specs.Opened.{is_opened, volume_mended, plan_of}
 use Rattle.udf_volume_model.specs.Plans.{planned, ClimbsFrom}
 use Rattle.udf_volume_laws.proofs.Members.{IsIn, kept_in, in_kept}
@@ -21,19 +19,26 @@ use Rattle.udf_volume_laws.proofs.Same.{bytes_same}
 use Rattle.udf_volume_laws.proofs.Difference.{past_kept}
 use Rattle.udf_volume_laws.proofs.OnePlan.{the_plan}
 use Rattle.udf_volume_laws.proofs.Applied.{in_range, range_in}
-use Rattle.udf_volume.specs.Seen.{extent_seen}
-use Rattle.udf_volume.specs.Areas.{anchor_stated}
-use Rattle.udf_volume.specs.Spans.{kept_span, other_span, limit_stated}
+use Rattle.udf_volume_laws.proofs.Final.{held_of}
+use Rattle.udf_volume.specs.Spans.{kept_span, other_span}
 use Rattle.udf_volume.specs.Opened.{volume_by}
+use Rattle.udf_volume.specs.Verdicts.{bad_stated}
 use Rattle.udf_volume.specs.declared.volume.Volume.{Volume}
-use Rattle.udf_volume.proofs.KeptList.{kept_front}
-use Rattle.udf_volume.proofs.Parted.{parted, none_fails}
-use Rattle.udf_volume.proofs.Described.{Describes, size_is, blocks_is, anchor_is, limit_is, areas_is, kept_is, other_is}
-use Rattle.udf_plan.specs.Changes.{changes, anchor_after, copy_after, block_at, to_mend}
-use Rattle.udf_volume.specs.Eligible.{eligible_stated, bad_stated}
-use Rattle.udf_plan.specs.Stated.{kept_list, other_agrees, logical_sector, copied, ended, sequence_changes, all_changes}
+use Rattle.udf_volume.proofs.Described.{Describes, size_is, kept_is, other_is}
+use Rattle.udf_volume.proofs.Judged.{bad_is, suffice_is, agrees_is, logical_is}
+use Rattle.udf_plan.specs.Changes.{changes, copy_of, copy_after, to_mend}
+use Rattle.udf_plan.specs.Stated.{places_mended, copied, ended, sequence_changes, all_changes}
 use Rattle.udf_plan.proofs.Changing.{changes_both, same_after}
 use Rattle.udf_plan.proofs.Wanted.{place_final, copy_final, end_final, off_final}
+
+-- the block size that the descriptors of an opened volume state
+sized_of : (size : ℕ) (image : List ℕ) (v : model.KeptSequence) → 512 ≤ size → is_opened size image ≡ true → kept_sequence_of size image ≡ Some v
+    → has_block_size size v.list ≡ true
+unfolding is_profile
+sized_of size image v large accepted found =
+    let held = held_of size image v large accepted found in
+    let profile : is_profile size v.list ≡ true = (and_parts (is_profile size v.list) (is_lawful size (blocks_in size image) (block_of size image) v) held.opened).0 in
+    (and_parts (has_block_size size v.list) _ profile).0
 
 -- members
 is_in : (n : ℕ) (xs : List ℕ) → IsIn n xs ⊎ (IsIn n xs → ⊥)
@@ -114,11 +119,7 @@ changes_alike disk after next (x ∷ xs) h =
     ∙ ap (λ tail. changes disk next (x ∷ []) ++ tail) (changes_alike disk after next xs (λ n i. h n (inr i)))
     ∙ sym (changes_both disk next (x ∷ []) xs)
 
-by_option : (disk : ℕ → List ℕ) (start : ℕ) (index : Option ℕ) → block_at disk (option_map (λ i. start + i) index) ≡ block_by disk start index
-by_option disk start None = refl
-by_option disk start (Some i) = refl
-
-module _ (size : ℕ) (image : List ℕ) (volume : Volume) (v : model.Volume) (d : Describes size image volume v) where
+module _ (size : ℕ) (image : List ℕ) (volume : Volume) (v : model.KeptSequence) (d : Describes size image volume v) where
   abbrev disk : ℕ → List ℕ
   disk = block_of size image
 
@@ -130,55 +131,13 @@ module _ (size : ℕ) (image : List ℕ) (volume : Volume) (v : model.Volume) (d
   unfolding volume_by
   place_is = ap (λ (x : Volume). x.anchor) d.is
 
-  list_is : kept_list volume image ≡ v.list
-  list_is =
-      ap (λ s. front_of (views (block_of s image) (kept_span volume).start (blocks_for s (kept_span volume).length))) (size_is size image volume v d)
-      ∙ ap (λ (e : Extent). front_of (views (block_of size image) e.start (blocks_of size e))) (kept_is size image volume v d)
-      ∙ kept_front size image v d.found
-
-  agrees_is : other_agrees volume image ≡ sequences_hold size (block_of size image) v
-  unfolding sequences_hold
-  agrees_is =
-      ap (λ l. agrees l (sequence_at volume.size (block_of volume.size image) (limit_stated volume) (extent_seen (other_span volume)))) list_is
-      ∙ ap (λ s. agrees v.list (sequence_at s (block_of s image) (limit_stated volume) (extent_seen (other_span volume)))) (size_is size image volume v d)
-      ∙ ap (λ n. agrees v.list (sequence_at size (block_of size image) n (extent_seen (other_span volume)))) (limit_is size image volume v d)
-      ∙ ap (λ e. agrees v.list (sequence_at size (block_of size image) (limit_of size v.anchor) e)) (other_is size image volume v d)
-
-  logical_is : block_at (block_of size image) (logical_sector volume (kept_list volume image)) ≡ logical_block (block_of size image) v
-  unfolding logical_block
-  logical_is =
-      ap (λ l. block_at (block_of size image) (logical_sector volume l)) list_is
-      ∙ by_option (block_of size image) (kept_span volume).start (prevailing_index 6 [] v.list)
-      ∙ ap (λ (e : Extent). block_by (block_of size image) e.start (prevailing_index 6 [] v.list)) (kept_is size image volume v d)
-
-  abbrev E : List ℕ
-  E = eligible size (blocks_in size image) v
-
-  eligible_is : eligible_stated volume ≡ eligible size (blocks_in size image) v
-  unfolding eligible
-  eligible_is =
-      ap (λ a. filter (is_eligible a) (ascending_places volume.blocks)) (areas_is size image volume v d)
-      ∙ ap (λ n. filter (is_eligible (areas_of size v.anchor v.list)) (ascending_places n)) (blocks_is size image volume v d)
-
-  bad_is : bad_stated volume image ≡ bad_of (block_of size image) v (eligible size (blocks_in size image) v)
-  bad_is =
-      ap (λ a. filter (λ place. not (is_good a place (block_of volume.size image place))) (eligible_stated volume)) (anchor_is size image volume v d)
-      ∙ ap (λ s. filter (λ place. not (is_good v.anchor place (block_of s image place))) (eligible_stated volume)) (size_is size image volume v d)
-      ∙ ap (λ l. filter (λ place. not (is_good v.anchor place (block_of size image place))) l) eligible_is
-
   abbrev ruled : List ℕ
-  ruled = cond (anchors_hold size (blocks_in size image) (block_of size image) v) [] (eligible size (blocks_in size image) v)
+  ruled = to_mend (anchors_hold size (blocks_in size image) (block_of size image) v) (bad_of (block_of size image) v (eligible size (blocks_in size image) v))
 
-  wanted_is : to_mend (eligible_stated volume) (bad_stated volume image) ≡ cond (anchors_hold size (blocks_in size image) (block_of size image) v) [] (eligible size (blocks_in size image) v)
-  unfolding to_mend anchors_hold
+  wanted_is : places_mended volume image ≡ ruled
   wanted_is =
-      let es : List ℕ = eligible size (blocks_in size image) v in
-      let good : ℕ → Bool = λ place. is_good v.anchor place (block_of size image place) in
-      let many : length es - length (bad_of (block_of size image) v es) ≡ length (good_of (block_of size image) v es) = omega (arith, parted good es) in
-      ap (λ l. cond (leb 2 (length l - length (bad_stated volume image)) || eqb (length (bad_stated volume image)) 0) [] l) eligible_is
-      ∙ ap (λ l. cond (leb 2 (length es - length l) || eqb (length l) 0) [] es) bad_is
-      ∙ ap (λ n. cond (leb 2 n || eqb (length (bad_of (block_of size image) v es)) 0) [] es) many
-      ∙ ap (λ b. cond (leb 2 (length (good_of (block_of size image) v es)) || b) [] es) (sym (none_fails good es))
+      ap (λ b. to_mend b (bad_stated volume image)) (suffice_is size image volume v d)
+      ∙ ap (to_mend (anchors_hold size (blocks_in size image) (block_of size image) v)) (bad_is size image volume v d)
 
   abbrev start : ℕ
   start = (other v).start
@@ -196,7 +155,7 @@ module _ (size : ℕ) (image : List ℕ) (volume : Volume) (v : model.Volume) (d
 
   -- what is added, in the terms of the definitions
   abbrev anchors_of : List ℕ → List (ℕ × List ℕ)
-  anchors_of xs = changes (block_of size image) (anchor_after (block_of size image) v.anchor (block_of size image v.place)) xs
+  anchors_of xs = changes (block_of size image) (copy_of (block_of size image) v.place) xs
 
   abbrev copies_of : List (ℕ × List ℕ)
   copies_of =
@@ -204,51 +163,54 @@ module _ (size : ℕ) (image : List ℕ) (volume : Volume) (v : model.Volume) (d
       ++ changes (block_of size image)
       (λ n. end_block size n (block_of size image ((kept v).start + length v.list)) (logical_block (block_of size image) v)) (((other v).start + length v.list) ∷ [])
 
-  sequence_is : sequence_changes volume image ≡ cond (sequences_hold size (block_of size image) v) [] copies_of
+  sequence_is : block_of size image volume.lvd ≡ logical_block (block_of size image) v
+      → sequence_changes volume image ≡ cond (sequences_hold size (block_of size image) v) [] copies_of
   unfolding sequence_changes
-  sequence_is =
-      let by_parts : ℕ → ℕ → ℕ → ℕ → (ℕ → List ℕ) → List (ℕ × List ℕ) = λ s c from to logical.
+  sequence_is logical =
+      let by_parts : ℕ → ℕ → ℕ → ℕ → (ℕ → List ℕ) → List (ℕ × List ℕ) = λ s c from to like.
       changes (block_of s image) (copy_after (block_of s image) from to) (range_with_len to c)
-      ++ changes (block_of s image) (λ n. end_block s n (block_of s image (from + c)) (logical s)) ((to + c) ∷ []) in
-      let logical : ℕ → List ℕ = λ s. block_at (block_of s image) (logical_sector volume (kept_list volume image)) in
-      ap (λ b. cond b [] (copied volume image ++ ended volume (logical_sector volume (kept_list volume image)) image)) agrees_is
-      ∙ ap (λ s. cond (sequences_hold size (block_of size image) v) [] (by_parts s volume.count (kept_span volume).start (other_span volume).start logical)) (size_is size image volume v d)
-      ∙ ap (λ c. cond (sequences_hold size (block_of size image) v) [] (by_parts size c (kept_span volume).start (other_span volume).start logical)) count_is
-      ∙ ap (λ (e : Extent). cond (sequences_hold size (block_of size image) v) [] (by_parts size (length v.list) e.start (other_span volume).start logical)) (kept_is size image volume v d)
-      ∙ ap (λ (e : Extent). cond (sequences_hold size (block_of size image) v) [] (by_parts size (length v.list) (kept v).start e.start logical)) (other_is size image volume v d)
-      ∙ ap (λ l. cond (sequences_hold size (block_of size image) v) [] (by_parts size (length v.list) (kept v).start (other v).start (λ _. l))) logical_is
+      ++ changes (block_of s image) (λ n. end_block s n (block_of s image (from + c)) (like s)) ((to + c) ∷ []) in
+      let like : ℕ → List ℕ = λ s. block_of s image volume.lvd in
+      ap (λ b. cond b [] (copied volume image ++ ended volume image)) (agrees_is size image volume v d)
+      ∙ ap (λ s. cond (sequences_hold size (block_of size image) v) [] (by_parts s volume.count (kept_span volume).start (other_span volume).start like)) (size_is size image volume v d)
+      ∙ ap (λ c. cond (sequences_hold size (block_of size image) v) [] (by_parts size c (kept_span volume).start (other_span volume).start like)) count_is
+      ∙ ap (λ (e : Extent). cond (sequences_hold size (block_of size image) v) [] (by_parts size (length v.list) e.start (other_span volume).start like)) (kept_is size image volume v d)
+      ∙ ap (λ (e : Extent). cond (sequences_hold size (block_of size image) v) [] (by_parts size (length v.list) (kept v).start e.start like)) (other_is size image volume v d)
+      ∙ ap (λ l. cond (sequences_hold size (block_of size image) v) [] (by_parts size (length v.list) (kept v).start (other v).start (λ _. l))) logical
 
-  all_is : (block places : List ℕ) → block ≡ block_of volume.size image volume.anchor → places ≡ to_mend (eligible_stated volume) (bad_stated volume image)
-      → all_changes volume image block places
+  all_is : (places : List ℕ) → block_of size image volume.lvd ≡ logical_block (block_of size image) v → places ≡ places_mended volume image
+      → all_changes volume image places
       ≡ anchors_of (filter (λ place. ltb place (other v).start) ruled)
       ++ (cond (sequences_hold size (block_of size image) v) [] copies_of ++ anchors_of (filter (λ place. leb (other v).start place) ruled))
   unfolding all_changes
-  all_is block places b p =
-      let by_parts : ℕ → Anchor → List ℕ → ℕ → List ℕ → List (ℕ × List ℕ) → List (ℕ × List ℕ) = λ s anchor k to xs middle.
-      changes (block_of s image) (anchor_after (block_of s image) anchor k) (filter (λ place. ltb place to) xs)
-      ++ (middle ++ changes (block_of s image) (anchor_after (block_of s image) anchor k) (filter (λ place. leb to place) xs)) in
-      ap (λ k. by_parts volume.size (anchor_stated volume) k (other_span volume).start places (sequence_changes volume image)) b
-      ∙ ap (λ s. by_parts s (anchor_stated volume) (block_of s image volume.anchor) (other_span volume).start places (sequence_changes volume image)) (size_is size image volume v d)
-      ∙ ap (λ n. by_parts size (anchor_stated volume) (block_of size image n) (other_span volume).start places (sequence_changes volume image)) place_is
-      ∙ ap (λ a. by_parts size a (block_of size image v.place) (other_span volume).start places (sequence_changes volume image)) (anchor_is size image volume v d)
-      ∙ ap (λ (e : Extent). by_parts size v.anchor (block_of size image v.place) e.start places (sequence_changes volume image)) (other_is size image volume v d)
-      ∙ ap (λ xs. by_parts size v.anchor (block_of size image v.place) (other v).start xs (sequence_changes volume image)) (p ∙ wanted_is)
-      ∙ ap (λ m. by_parts size v.anchor (block_of size image v.place) (other v).start ruled m) sequence_is
+  all_is places logical p =
+      let by_parts : ℕ → ℕ → ℕ → List ℕ → List (ℕ × List ℕ) → List (ℕ × List ℕ) = λ s from to xs middle.
+      changes (block_of s image) (copy_of (block_of s image) from) (filter (λ place. ltb place to) xs)
+      ++ (middle ++ changes (block_of s image) (copy_of (block_of s image) from) (filter (λ place. leb to place) xs)) in
+      ap (λ s. by_parts s volume.anchor (other_span volume).start places (sequence_changes volume image)) (size_is size image volume v d)
+      ∙ ap (λ n. by_parts size n (other_span volume).start places (sequence_changes volume image)) place_is
+      ∙ ap (λ (e : Extent). by_parts size v.place e.start places (sequence_changes volume image)) (other_is size image volume v d)
+      ∙ ap (λ xs. by_parts size v.place (other v).start xs (sequence_changes volume image)) (p ∙ wanted_is)
+      ∙ ap (λ m. by_parts size v.place (other v).start ruled m) (sequence_is logical)
 
   module _ (large : 512 ≤ size) (accepted : is_opened size image ≡ true) where
     abbrev final : ℕ → List ℕ
     final n = block_of size (volume_mended size image) n
 
-    ruled_final : (n : ℕ) → IsIn n ruled → anchor_after (block_of size image) v.anchor (block_of size image v.place) n ≡ block_of size (volume_mended size image) n
+    logical : block_of size image volume.lvd ≡ logical_block (block_of size image) v
+    logical = logical_is size image volume v d large (sized_of size image v large accepted d.found)
+
+    ruled_final : (n : ℕ) → IsIn n ruled → relocated n (block_of size image v.place) ≡ block_of size (volume_mended size image) n
     ruled_final n i = by_rule (anchors_hold size (blocks_in size image) (block_of size image) v) refl i where
-      by_rule : (b : Bool) → anchors_hold size (blocks_in size image) (block_of size image) v ≡ b → IsIn n (cond b [] (eligible size (blocks_in size image) v))
-          → anchor_after (block_of size image) v.anchor (block_of size image v.place) n ≡ block_of size (volume_mended size image) n
+      by_rule : (b : Bool) → anchors_hold size (blocks_in size image) (block_of size image) v ≡ b
+          → IsIn n (cond b [] (bad_of (block_of size image) v (eligible size (blocks_in size image) v)))
+          → relocated n (block_of size image v.place) ≡ block_of size (volume_mended size image) n
       by_rule true e j = absurd j
       by_rule false e j = place_final size image v large accepted d.found e n j
 
     anchors_final : (test : ℕ → Bool) → anchors_of (filter test ruled) ≡ changes (block_of size image) final (filter test ruled)
     anchors_final test =
-        changes_alike (block_of size image) (anchor_after (block_of size image) v.anchor (block_of size image v.place)) final (filter test ruled)
+        changes_alike (block_of size image) (copy_of (block_of size image) v.place) final (filter test ruled)
         (λ n i. ruled_final n (kept_in test ruled n i).0)
 
     copies_final : (b : Bool) → sequences_hold size (block_of size image) v ≡ b → cond b [] copies_of ≡ changes (block_of size image) final (cond b [] run)
@@ -299,7 +261,7 @@ module _ (size : ℕ) (image : List ℕ) (volume : Volume) (v : model.Volume) (d
           by_rule false e f = inr (by_side f (cases_lt n (other v).start) (cases_lt ((other v).start + length v.list) n))
 
     anchors_off : (n : ℕ) → (IsIn n sectors → ⊥)
-        → (anchors_hold size (blocks_in size image) (block_of size image) v ≡ true) ⊎ (IsIn n (eligible size (blocks_in size image) v) → ⊥)
+        → (anchors_hold size (blocks_in size image) (block_of size image) v ≡ true) ⊎ (IsIn n (bad_of (block_of size image) v (eligible size (blocks_in size image) v)) → ⊥)
     anchors_off n off = by_rule (anchors_hold size (blocks_in size image) (block_of size image) v) refl by_side where
       by_side : IsIn n ruled → ⊥
       by_side i = by_order (cases_lt n (other v).start) where
@@ -308,18 +270,17 @@ module _ (size : ℕ) (image : List ℕ) (volume : Volume) (v : model.Volume) (d
         by_order (inr l) = off (in_right n (filter (λ place. ltb place (other v).start) ruled) _
             (in_right n (cond (sequences_hold size (block_of size image) v) [] run) _ (in_kept (λ place. leb (other v).start place) ruled n i (le-leb _ _ l))))
 
-      by_rule : (b : Bool) → anchors_hold size (blocks_in size image) (block_of size image) v ≡ b → (IsIn n (cond b [] (eligible size (blocks_in size image) v)) → ⊥)
-          → (anchors_hold size (blocks_in size image) (block_of size image) v ≡ true) ⊎ (IsIn n (eligible size (blocks_in size image) v) → ⊥)
+      by_rule : (b : Bool) → anchors_hold size (blocks_in size image) (block_of size image) v ≡ b → (IsIn n (cond b [] (bad_of (block_of size image) v (eligible size (blocks_in size image) v))) → ⊥)
+          → (anchors_hold size (blocks_in size image) (block_of size image) v ≡ true) ⊎ (IsIn n (bad_of (block_of size image) v (eligible size (blocks_in size image) v)) → ⊥)
       by_rule true e f = inl e
       by_rule false e f = inr f
 
     whole : (n : ℕ) → (IsIn n sectors → ⊥) → block_of size (volume_mended size image) n ≡ block_of size image n
     whole n off = off_final size image v large accepted d.found n (sequence_off n off) (anchors_off n off)
 
-    changes_are : (block places : List ℕ) → block ≡ block_of volume.size image volume.anchor → places ≡ to_mend (eligible_stated volume) (bad_stated volume image)
-        → all_changes volume image block places ≡ changes (block_of size image) final sectors
-    changes_are block places b p =
-        all_is block places b p
+    changes_are : (places : List ℕ) → places ≡ places_mended volume image → all_changes volume image places ≡ changes (block_of size image) final sectors
+    changes_are places p =
+        all_is places logical p
         ∙ ap (λ low. low ++ (cond (sequences_hold size (block_of size image) v) [] copies_of ++ anchors_of (filter (λ place. leb (other v).start place) ruled)))
         (anchors_final (λ place. ltb place (other v).start))
         ∙ ap (λ middle. changes (block_of size image) final (filter (λ place. ltb place (other v).start) ruled) ++ (middle ++ anchors_of (filter (λ place. leb (other v).start place) ruled)))
@@ -333,11 +294,10 @@ module _ (size : ℕ) (image : List ℕ) (volume : Volume) (v : model.Volume) (d
         (changes_both (block_of size image) final (cond (sequences_hold size (block_of size image) v) [] run) (filter (λ place. leb (other v).start place) ruled)))
 
     -- the plan is the difference
-    pub exact : (plan : List (ℕ × List ℕ)) (block places : List ℕ) → ClimbsFrom 0 plan → plan ≡ all_changes volume image block places
-        → block ≡ block_of volume.size image volume.anchor → places ≡ to_mend (eligible_stated volume) (bad_stated volume image)
-        → plan ≡ plan_of size image (volume_mended size image)
-    exact plan block places climbs is b p =
-        let added : plan ≡ changes (block_of size image) final sectors = is ∙ changes_are block places b p in
+    pub exact : (plan : List (ℕ × List ℕ)) (places : List ℕ) → ClimbsFrom 0 plan → plan ≡ all_changes volume image places
+        → places ≡ places_mended volume image → plan ≡ plan_of size image (volume_mended size image)
+    exact plan places climbs is p =
+        let added : plan ≡ changes (block_of size image) final sectors = is ∙ changes_are places p in
         the_plan size image (volume_mended size image) plan (record {
           ascends = climbs;
           differing = λ n l. ap (planned n) added ∙ looked_up (block_of size image) final sectors whole n;

@@ -20,7 +20,9 @@ use Rattle.udf_volume.specs.declared.volume.Which.TheVariants.{Main, Reserve}
 use Rattle.udf_blocks.specs.Planned.{are_at, are_below}
 use Rattle.udf_plan.specs.Changes.{KeepsTo, AscendFrom, to_mend}
 use Rattle.udf_blocks.specs.PlanFor.{sealed_stated}
-use Rattle.udf_volume.specs.Eligible.{eligible_stated}
+use Rattle.udf_volume.specs.Verdicts.{IsPart, HasPlaces}
+use Rattle.udf_volume.specs.declared.good_anchors.AnchorVerdict.{AnchorVerdict}
+use Rattle.udf_volume.proofs.Parts.{all_of_part, below_of_part}
 use Rattle.udf_plan.specs.Stated.{AreRuled}
 use Rattle.udf_plan.proofs.Rooms.{fits, room}
 
@@ -73,18 +75,27 @@ eligible_outside : (areas : List Area) (n : ℕ) → is_eligible areas n ≡ tru
 unfolding is_eligible
 eligible_outside areas n e = (and_parts (leb 256 n) (is_outside areas n) e).1
 
+part_ascends : (from : ℕ) (part whole : List ℕ) → IsPart part whole → AscendFrom from whole → AscendFrom from part
+part_ascends from [] whole p a = tt
+part_ascends from (n ∷ part) [] p a = absurd p
+part_ascends from (n ∷ part) (m ∷ whole) (inl q) a =
+    let P : ℕ → Type 0 = λ k. AscendFrom (k + 1) part in
+    (omega (arith, a.0, q.0), subst P (sym q.0) (part_ascends (m + 1) part whole q.1 a.1))
+part_ascends from (n ∷ part) (m ∷ whole) (inr p) a = lower (m + 1) from (n ∷ part) (omega (arith, a.0)) (part_ascends (m + 1) (n ∷ part) whole p a.1)
+
 -- what is wanted is ruled
-pub ruled_of : (volume : Volume) (places bad : List ℕ) → places ≡ eligible_stated volume → All (λ at. at < volume.blocks) places → AreRuled volume (to_mend places bad)
-unfolding to_mend
-ruled_of volume places bad is inside = by_test _ where
-  by_test : (b : Bool) → AreRuled volume (cond b [] places)
+pub ruled_of : (volume : Volume) (verdict : AnchorVerdict) → HasPlaces volume verdict → AreRuled volume (to_mend verdict.holds verdict.bad.items)
+ruled_of volume verdict has = by_test verdict.holds where
+  by_test : (b : Bool) → AreRuled volume (cond b [] verdict.bad.items)
   by_test true = record { ascend = tt; inside = λ k d lt. absurd (omega arith); outside = refl }
   by_test false = record {
-    ascend = subst (λ (xs : List ℕ). AscendFrom 0 xs) (sym is)
-        (filter_ascends (is_eligible (areas_stated volume)) 0 (ascending_places volume.blocks) (rises_ascend (ascending_places volume.blocks) (places_rise volume.blocks)));
-    inside = inside;
-    outside = ap (list_all (is_outside (areas_stated volume))) is
-        ∙ all_passed (is_eligible (areas_stated volume)) (is_outside (areas_stated volume)) (ascending_places volume.blocks) (eligible_outside (areas_stated volume));
+    ascend = part_ascends 0 verdict.bad.items verdict.eligible.items has.bad
+        (subst (λ (xs : List ℕ). AscendFrom 0 xs) (sym has.eligible)
+        (filter_ascends (is_eligible (areas_stated volume)) 0 (ascending_places volume.blocks) (rises_ascend (ascending_places volume.blocks) (places_rise volume.blocks))));
+    inside = below_of_part volume.blocks verdict.bad.items verdict.eligible.items has.bad has.inside;
+    outside = all_of_part (is_outside (areas_stated volume)) verdict.bad.items verdict.eligible.items has.bad
+        (ap (list_all (is_outside (areas_stated volume))) has.eligible
+        ∙ all_passed (is_eligible (areas_stated volume)) (is_outside (areas_stated volume)) (ascending_places volume.blocks) (eligible_outside (areas_stated volume)));
   }
 
 -- a lawful layout keeps the extents of the sequences apart

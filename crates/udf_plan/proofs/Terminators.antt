@@ -1,10 +1,8 @@
 -- A terminator, byte by byte.
-use Rattle.std.proofs.Common.{◌≡◌, ℕ, suc, ◌-◌, ◌≤◌, arith, refl, sym, ◌∙◌, ap, List, [], ◌∷◌, get_or, replicate, cond, true, false, Option, Some, None}
+use Rattle.std.proofs.Common.{◌≡◌, ℕ, suc, ◌-◌, ◌≤◌, arith, sym, ◌∙◌, ap, List, ◌∷◌, get_or, replicate, cond, true, false}
 use Rattle.std.proofs.Math.ListN.{set}
-use Rattle.std.specs.Option.{IfSome}
 use Rattle.udf_model.specs.Tag.{whole_id, is_id, relocated, retagged}
 use Rattle.udf_volume_model.specs.Mended.{terminator, end_block}
-use Rattle.udf_plan.specs.Changes.{block_at}
 
 eight_more : (size : ℕ) → 512 ≤ size → replicate {A = ℕ} size 0 ≡ 0 ∷ 0 ∷ 0 ∷ 0 ∷ 0 ∷ 0 ∷ 0 ∷ 0 ∷ replicate (size - 8) 0
 eight_more size room = ap (λ n. replicate {A = ℕ} n 0) (let e : size ≡ suc (suc (suc (suc (suc (suc (suc (suc (size - 8)))))))) = omega arith in e)
@@ -24,14 +22,3 @@ moved_end size to source like made e is = is ∙ sym (ap (λ b. cond b (relocate
 pub new_end : (size to : ℕ) (source like made : List ℕ) → is_id 8 (whole_id source) ≡ false → made ≡ terminator size to like → made ≡ end_block size to source like
 unfolding end_block
 new_end size to source like made e is = is ∙ sym (ap (λ b. cond b (relocated to source) (terminator size to like)) e)
-
--- zeros in place of a block
-blank_like : (size to : ℕ) → 512 ≤ size → terminator size to (replicate size 0) ≡ terminator size to []
-unfolding terminator
-blank_like size to room =
-    ap (λ zeros. retagged to 496 (8 ∷ 0 ∷ get_or zeros 2 0 ∷ get_or zeros 3 0 ∷ 0 ∷ 0 ∷ get_or zeros 6 0 ∷ get_or zeros 7 0 ∷ replicate (size - 8) 0)) (eight_more size room)
-
-pub like_is : (size to : ℕ) (disk : ℕ → List ℕ) (logical : Option ℕ) (block : List ℕ) → 512 ≤ size → IfSome logical (λ n. block ≡ disk n)
-    → (logical ≡ None → block ≡ replicate size 0) → terminator size to block ≡ terminator size to (block_at disk logical)
-like_is size to disk None block room some none = ap (terminator size to) (none refl) ∙ blank_like size to room
-like_is size to disk (Some n) block room some none = ap (terminator size to) some

@@ -1,9 +1,8 @@
 -- The mended image, sector by sector, in the terms in which a plan is made.
-use Rattle.std.proofs.Common.{◌≡◌, ◌⊎◌, inl, inr, ℕ, zero, suc, ◌+◌, ◌<◌, ◌≤◌, arith, sym, ◌∙◌, ap, subst, List, [], ◌++◌, length, Bool, true, false, cond, not, Some}
-use Rattle.std.proofs.lemmas.Bool.{cases_Bool}
+use Rattle.std.proofs.Common.{◌≡◌, ◌⊎◌, inl, inr, ℕ, zero, suc, ◌+◌, ◌<◌, ◌≤◌, arith, refl, sym, ◌∙◌, ap, subst, List, [], ◌++◌, length, Bool, true, false, cond, not, Some}
 use Rattle.udf_model.specs.Tag.{relocated}
 use Rattle.udf_model.specs.Image.{block_of, blocks_in}
-use Rattle.udf_volume_model.specs.Kept.{Volume, kept, other, volume_of}
+use Rattle.udf_volume_model.specs.Kept.{KeptSequence, kept, other, kept_sequence_of}
 use Rattle.udf_volume_model.specs.Rules.{ascending_places, is_eligible, eligible, is_good, bad_of, anchors_hold, sequences_hold}
 use Rattle.udf_volume_model.specs.Edits.{look}
 use Rattle.udf_volume_model.specs.Mended.{logical_block, end_block, copies, sequence_edits, anchor_edits, edits}
@@ -11,10 +10,9 @@ use Rattle.udf_volume_model.specs.Opened.{is_opened, volume_mended}
 use Rattle.udf_volume_laws.proofs.Members.{IsIn, kept_in}
 use Rattle.udf_volume_laws.proofs.Puts.{IsOff, off, off_both, look_both, look_here, look_past, chosen, chosen_off}
 use Rattle.udf_volume_laws.proofs.Copies.{copies_below, copies_above}
-use Rattle.udf_volume_laws.proofs.After.{IsOpened, areas_in, put_there, good_stays, outside_of}
+use Rattle.udf_volume_laws.proofs.After.{IsOpened, areas_in, put_there}
 use Rattle.udf_volume_laws.proofs.Final.{held_of}
 use Rattle.udf_volume_laws.proofs.Difference.{mended_block}
-use Rattle.udf_plan.specs.Changes.{anchor_after}
 
 -- a copy, block by block
 look_copy : (size : ℕ) (disk : ℕ → List ℕ) (like : List ℕ) (count from to i : ℕ) (base : List ℕ) → i < count
@@ -50,7 +48,11 @@ look_end size disk like (suc count) from to base =
     ∙ look_end size disk like count (from + 1) (to + 1) base
     ∙ ap (λ n. end_block size n (disk (from + 1 + count)) like) (sym t) ∙ ap (λ n. end_block size (to + suc count) (disk n) like) f
 
-module _ (size : ℕ) (image : List ℕ) (volume : Volume) (large : 512 ≤ size) (accepted : is_opened size image ≡ true) (is : volume_of size image ≡ Some volume) where
+not_true : (b : Bool) → not b ≡ true → b ≡ false
+not_true true e = cc
+not_true false e = refl
+
+module _ (size : ℕ) (image : List ℕ) (volume : KeptSequence) (large : 512 ≤ size) (accepted : is_opened size image ≡ true) (is : kept_sequence_of size image ≡ Some volume) where
   abbrev disk : ℕ → List ℕ
   disk = block_of size image
 
@@ -66,25 +68,18 @@ module _ (size : ℕ) (image : List ℕ) (volume : Volume) (large : 512 ≤ size
   by_edits : (n : ℕ) → final n ≡ look n (edits size blocks disk volume) (disk n)
   by_edits n = mended_block size image volume n large accepted is
 
-  -- a ruled place, where the rule on anchors is broken
-  pub place_final : anchors_hold size blocks disk volume ≡ false → (n : ℕ) → IsIn n (eligible size blocks volume)
-      → anchor_after disk volume.anchor (disk volume.place) n ≡ final n
+  -- a bad place, where the rule on anchors is broken
+  pub place_final : anchors_hold size blocks disk volume ≡ false → (n : ℕ) → IsIn n (bad_of disk volume (eligible size blocks volume))
+      → relocated n (disk volume.place) ≡ final n
   unfolding eligible
-  place_final broken n i = by_good (cases_Bool (is_good volume.anchor n (disk n))) where
-    member : IsIn n (ascending_places (blocks_in size image)) × (is_eligible (areas_in size volume) n ≡ true)
-    member = kept_in (is_eligible (areas_in size volume)) (ascending_places (blocks_in size image)) n i
-
-    by_good : (is_good volume.anchor n (block_of size image n) ≡ true) ⊎ (is_good volume.anchor n (block_of size image n) ≡ false)
-        → anchor_after (block_of size image) volume.anchor (block_of size image volume.place) n ≡ block_of size (volume_mended size image) n
-    by_good (inl good) =
-        ap (λ b. cond b (block_of size image n) (relocated n (block_of size image volume.place))) good
-        ∙ sym (by_edits n
-        ∙ good_stays size (blocks_in size image) (block_of size image) volume (held_of size image volume large accepted is) n
-        (outside_of size (blocks_in size image) (block_of size image) volume (held_of size image volume large accepted is) n member.1) good)
-    by_good (inr bad) =
-        ap (λ b. cond b (block_of size image n) (relocated n (block_of size image volume.place))) bad
-        ∙ sym (by_edits n
-        ∙ put_there size (blocks_in size image) (block_of size image) volume (held_of size image volume large accepted is) broken n member.0 member.1 bad)
+  place_final broken n i =
+      let bad : (IsIn n (eligible size blocks volume)) × (not (is_good volume.anchor n (disk n)) ≡ true) =
+      kept_in (λ place. not (is_good volume.anchor place (disk place))) (eligible size blocks volume) n i in
+      let member : IsIn n (ascending_places (blocks_in size image)) × (is_eligible (areas_in size volume) n ≡ true) =
+      kept_in (is_eligible (areas_in size volume)) (ascending_places (blocks_in size image)) n bad.0 in
+      sym (by_edits n
+      ∙ put_there size (blocks_in size image) (block_of size image) volume (held_of size image volume large accepted is) broken n member.0 member.1
+      (not_true (is_good volume.anchor n (disk n)) bad.1))
 
   -- a copied block, where the rule on sequences is broken
   by_sequence : sequences_hold size disk volume ≡ false → (n : ℕ)
@@ -120,18 +115,18 @@ module _ (size : ℕ) (image : List ℕ) (volume : Volume) (large : 512 ≤ size
     by_rule false (inl l) = copies_below size (block_of size image) (logical_block (block_of size image) volume) (length volume.list) (kept volume).start (other volume).start n l
     by_rule false (inr l) = copies_above size (block_of size image) (logical_block (block_of size image) volume) (length volume.list) (kept volume).start (other volume).start n l
 
-  anchors_none : (n : ℕ) → (anchors_hold size blocks disk volume ≡ true) ⊎ (IsIn n (eligible size blocks volume) → ⊥) → IsOff n (anchor_edits size blocks disk volume)
+  anchors_none : (n : ℕ) → (anchors_hold size blocks disk volume ≡ true) ⊎ (IsIn n (bad_of disk volume (eligible size blocks volume)) → ⊥)
+      → IsOff n (anchor_edits size blocks disk volume)
   unfolding anchor_edits
   anchors_none n (inl holds) =
       subst (λ (b : Bool). IsOff n (cond b [] (chosen (λ place. relocated place (disk volume.place)) (bad_of disk volume (eligible size blocks volume))))) (sym holds) tt
   anchors_none n (inr apart) = by_rule (anchors_hold size (blocks_in size image) (block_of size image) volume) where
     by_rule : (b : Bool) → IsOff n (cond b [] (chosen (λ place. relocated place (block_of size image volume.place)) (bad_of (block_of size image) volume (eligible size (blocks_in size image) volume))))
     by_rule true = tt
-    by_rule false = chosen_off (λ place. relocated place (block_of size image volume.place)) (bad_of (block_of size image) volume (eligible size (blocks_in size image) volume)) n
-        (λ i. apart (kept_in (λ place. not (is_good volume.anchor place (block_of size image place))) (eligible size (blocks_in size image) volume) n i).0)
+    by_rule false = chosen_off (λ place. relocated place (block_of size image volume.place)) (bad_of (block_of size image) volume (eligible size (blocks_in size image) volume)) n apart
 
   pub off_final : (n : ℕ) → (sequences_hold size disk volume ≡ true) ⊎ ((n < (other volume).start) ⊎ ((other volume).start + length volume.list < n))
-      → (anchors_hold size blocks disk volume ≡ true) ⊎ (IsIn n (eligible size blocks volume) → ⊥) → final n ≡ disk n
+      → (anchors_hold size blocks disk volume ≡ true) ⊎ (IsIn n (bad_of disk volume (eligible size blocks volume)) → ⊥) → final n ≡ disk n
   unfolding edits
   off_final n s a =
       by_edits n ∙ off n (sequence_edits size disk volume ++ anchor_edits size blocks disk volume) (disk n) (off_both n _ _ (sequence_none n s) (anchors_none n a))

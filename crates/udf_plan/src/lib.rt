@@ -4,6 +4,7 @@
 #![tactic(auto)]
 
 mod anchors;
+mod copy;
 mod difference;
 mod sequence;
 mod terminator;

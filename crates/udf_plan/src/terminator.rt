@@ -3,9 +3,7 @@ ghost use Rattle.std.specs.Prelude.{◌≡◌, ◌≤◌, length};
 ghost use Rattle.udf_volume_model.specs.Mended.{terminator};
 
 use udf_field::retag;
-
-/// The identifier of a terminating descriptor.
-pub(crate) const TERMINATING: u16 = 8;
+use udf_volume::TERMINATING;
 
 /// The bytes that its CRC covers.
 const COVERED: u16 = 496;

@@ -1,27 +1,23 @@
 //! The plan of a volume for the rules on anchors (ECMA-167 3/8.4.2.1) and on sequences (3/8.4.2, 3/8.4.3).
-ghost use Rattle.std.specs.Prelude.{◌≡◌, ◌*◌, ◌≤◌, ◌<◌, length, filter, nat_lt, nat_le, OnOk, IfOk, IsErrOf, Ok, true, [], not};
-ghost use Rattle.std.specs.List.{All};
-ghost use Rattle.udf_model.specs.Image.{block_of};
-ghost use Rattle.udf_outside.specs.Files.{IsAttached};
+ghost use Rattle.std.specs.Prelude.{◌≡◌, ◌<◌, length, filter, nat_lt, nat_le, OnOk, IfOk, Ok, true, [], not};
 ghost use Rattle.udf_outside.specs.Stops.{bytes_of};
 ghost use Rattle.udf_outside.specs.Reads.{OnlyReads};
 ghost use Rattle.udf_outside.specs.declared.bench.Role.TheVariants.{Image};
 ghost use Rattle.udf_volume_model.specs.Areas.{covers};
-ghost use Rattle.udf_volume_model.specs.Opened.{is_opened, volume_mended, plan_of};
+ghost use Rattle.udf_volume_model.specs.Opened.{volume_mended, plan_of};
 ghost use Rattle.udf_volume.specs.Laid.{IsLaidOut};
-ghost use Rattle.udf_volume.specs.Opened.{opened, IsBounded};
+ghost use Rattle.udf_volume.specs.Opened.{opening};
 ghost use Rattle.udf_blocks.specs.Planned.{are_at, are_below};
-ghost use Rattle.udf_plan.specs.Changes.{to_mend};
 ghost use Rattle.udf_blocks.specs.PlanFor.{sealed_stated, IsPlanFor};
-ghost use Rattle.udf_volume.specs.Eligible.{eligible_stated, bad_stated};
-ghost use Rattle.udf_plan.specs.Stated.{all_changes, AreRuled};
+ghost use Rattle.udf_plan.specs.Stated.{places_mended, all_changes, AreRuled};
+ghost use Rattle.udf_volume.specs.Over.{IsOver};
 
 use crate::anchors::{add_anchors, places_to_mend};
 use crate::sequence::add_sequence;
 use crate::{Plan, WorkStop};
 use std::alloc::{AllocError, Global};
-use udf_outside::{Bench, read_block};
-use udf_volume::{Volume, bad_places, eligible_places};
+use udf_outside::Bench;
+use udf_volume::{Volume, anchor_verdict};
 
 fn places_below(alloc: Global, places: &[u32], sector: u32) -> Result<Vec<u32>, AllocError>
     ensures { IfOk result (λ v. v.items ≡ filter (λ place. nat_lt place sector) places.now) }
@@ -50,42 +46,33 @@ fn wanted_places<B: Bench>(
     volume: &Volume,
     block: &mut [u8],
 ) -> Result<Vec<u32>, WorkStop>
-    requires attached { IsAttached Image (B.files bench.old) }
-    requires within { volume.now.blocks * volume.now.size ≤ (B.files bench.old).image.size }
-    requires large { 512 ≤ volume.now.size }
+    requires over { IsOver volume.now (B.files bench.old) }
     requires room { length block.old ≡ volume.now.size }
-    ensures wanted { B.tells → IfOk result (λ v. v.items
-        ≡ to_mend (eligible_stated volume.now) (bad_stated volume.now (bytes_of Image (B.held bench.old)))) }
+    ensures wanted { B.tells → IfOk result (λ v. v.items ≡ places_mended volume.now (bytes_of Image (B.held bench.old))) }
     ensures ruled { IfOk result (λ v. AreRuled volume.now v.items) }
     ensures reads { OnlyReads B.files B.held B.faults bench.old bench.new WorkStop.Fault result }
 {
-    let places = eligible_places(alloc, volume)?;
-    let bad = bad_places(alloc, bench, volume, &places, block)?;
-    Ok(places_to_mend(alloc, places, &bad))
+    let verdict = anchor_verdict(alloc, bench, volume, block)?;
+    Ok(places_to_mend(alloc, verdict))
 }
 
-// Adds all that is to be mended to an empty plan. `kept` is the kept anchor's block; `block` and `made` are lent.
+// Adds all that is to be mended to an empty plan. `block` and `made` are lent.
 fn fill<B: Bench>(
     alloc: Global,
     bench: &mut B,
     volume: &Volume,
-    kept: &[u8],
     places: &[u32],
     plan: &mut Plan,
     block: &mut [u8],
     made: &mut [u8],
 ) -> Result<(), WorkStop>
-    requires attached { IsAttached Image (B.files bench.old) }
-    requires within { volume.now.blocks * volume.now.size ≤ (B.files bench.old).image.size }
-    requires large { 512 ≤ volume.now.size }
-    requires bounded { IsBounded volume.now.size volume.now.blocks volume.now }
+    requires over { IsOver volume.now (B.files bench.old) }
     requires laid { IsLaidOut volume.now }
     requires ruled { AreRuled volume.now places.now }
     requires blank { plan.old ≡ record { size = volume.now.size; blocks = [] } }
-    requires kept_room { length kept.now ≡ volume.now.size }
     requires block_room { length block.old ≡ volume.now.size }
     requires made_room { length made.old ≡ volume.now.size }
-    ensures added { B.tells → OnOk result (plan.new.blocks ≡ all_changes volume.now (bytes_of Image (B.held bench.old)) kept.now places.now) }
+    ensures added { B.tells → OnOk result (plan.new.blocks ≡ all_changes volume.now (bytes_of Image (B.held bench.old)) places.now) }
     ensures inside { OnOk result (are_below volume.now.blocks plan.new.blocks ≡ true) }
     ensures unsealed { OnOk result (are_at (λ n. not (covers (sealed_stated volume.now) n)) plan.new.blocks ≡ true) }
     ensures sized { OnOk result (plan.new.size ≡ volume.now.size) }
@@ -94,9 +81,9 @@ fn fill<B: Bench>(
     let start = volume.other_extent().start;
     let low = places_below(alloc, places, start)?;
     let high = places_from(alloc, places, start)?;
-    add_anchors(bench, volume, kept, &low, plan, block, made)?;
+    add_anchors(bench, volume, &low, plan, block, made)?;
     add_sequence(alloc, bench, volume, plan, block, made)?;
-    add_anchors(bench, volume, kept, &high, plan, block, made)?;
+    add_anchors(bench, volume, &high, plan, block, made)?;
     Ok(())
 }
 
@@ -106,12 +93,9 @@ pub fn plan_volume<B: Bench>(
     bench: &mut B,
     volume: &Volume,
 ) -> Result<Plan, WorkStop>
-    requires attached { IsAttached Image (B.files bench.old) }
-    requires within { volume.now.blocks * volume.now.size ≤ (B.files bench.old).image.size }
-    requires large { 512 ≤ volume.now.size }
-    requires bounded { IsBounded volume.now.size volume.now.blocks volume.now }
+    requires over { IsOver volume.now (B.files bench.old) }
     requires laid { IsLaidOut volume.now }
-    ensures plan { B.tells → opened volume.now.size (bytes_of Image (B.held bench.old)) ≡ Ok volume.now
+    ensures plan { B.tells → opening volume.now.size (bytes_of Image (B.held bench.old)) ≡ Ok volume.now
         → IfOk result (λ plan. plan.blocks ≡ plan_of volume.now.size (bytes_of Image (B.held bench.old))
         (volume_mended volume.now.size (bytes_of Image (B.held bench.old)))) }
     ensures lawful { IfOk result (IsPlanFor volume.now) }
@@ -119,12 +103,10 @@ pub fn plan_volume<B: Bench>(
 {
     let mut block = vec![in alloc; 0u8; volume.size as usize]?;
     let mut made = vec![in alloc; 0u8; volume.size as usize]?;
-    let mut kept = vec![in alloc; 0u8; volume.size as usize]?;
     let places = wanted_places(alloc, bench, volume, &mut block)?;
-    read_block(bench, volume.size, volume.anchor, &mut kept)?;
     let mut plan = Plan::blank(alloc, volume.size);
     fill(
-        alloc, bench, volume, &kept, &places, &mut plan, &mut block, &mut made,
+        alloc, bench, volume, &places, &mut plan, &mut block, &mut made,
     )?;
     Ok(plan)
 }

@@ -10,12 +10,12 @@ use Rattle.udf_volume_laws.proofs.Sizes.{found_stays}
 use Rattle.udf_volume_laws.proofs.Twice.{stays}
 use Rattle.udf_volume_laws.proofs.Applied.{mended_rewrites}
 use Rattle.udf_volume_laws.proofs.Difference.{no_broken_rule, broken_differs}
-use Rattle.udf_volume.specs.Writable.{opened_writable}
+use Rattle.udf_volume.specs.Writable.{writable_opening}
 use Rattle.udf_volume.proofs.Protected.{writable_is}
 use Rattle.udf_repair_model.specs.Accepted.{is_accepted, is_unbroken, mended, mend}
 
 module _ (size : ℕ) (image : List ℕ) where
-  pub accepted_is : is_accepted size image ≡ is_ok (opened_writable size image)
+  pub accepted_is : is_accepted size image ≡ is_ok (writable_opening size image)
   unfolding is_accepted
   accepted_is = writable_is size image
 

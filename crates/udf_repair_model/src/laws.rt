@@ -3,7 +3,7 @@ ghost use Rattle.std.specs.Prelude.{◌≡◌, ◌≤◌, ℕ, Option, Some, Lis
 ghost use Rattle.udf_volume_model.specs.Size.{size_of};
 ghost use Rattle.udf_volume_model.specs.Opened.{difference};
 ghost use Rattle.udf_volume_model.specs.Plans.{IsRewrite};
-ghost use Rattle.udf_volume.specs.Writable.{opened_writable};
+ghost use Rattle.udf_volume.specs.Writable.{writable_opening};
 ghost use Rattle.udf_repair_model.specs.Accepted.{is_accepted, is_unbroken, mended, mend};
 
 /// The mended image of an accepted one is accepted and breaks no rule, and every image is repaired to one that a second repair
@@ -23,5 +23,5 @@ pub fn repair_law()
 
 /// An image is accepted for a repair exactly where a volume that may be written is opened.
 pub fn accepted_law()
-    ensures { (size : ℕ) (image : List ℕ) → is_accepted size image ≡ is_ok (opened_writable size image) }
+    ensures { (size : ℕ) (image : List ℕ) → is_accepted size image ≡ is_ok (writable_opening size image) }
 {}

@@ -1,3 +1,3 @@
-pub mod Found
+pub mod Findings
 pub mod Reported
 pub mod Lines

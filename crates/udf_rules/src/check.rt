@@ -1,16 +1,11 @@
 //! All rules that are built, in their order.
-ghost use Rattle.std.specs.Prelude.{◌≡◌, ◌*◌, ◌≤◌, ◌<◌, ◌^◌, ◌++◌, length, map, IfOk, OnOk, IsErrOf, Ok};
-ghost use Rattle.udf_outside.specs.Files.{IsAttached};
+ghost use Rattle.std.specs.Prelude.{◌≡◌, IfOk, Ok};
 ghost use Rattle.udf_outside.specs.Stops.{bytes_of};
 ghost use Rattle.udf_outside.specs.Reads.{OnlyReads};
 ghost use Rattle.udf_outside.specs.declared.bench.Role.TheVariants.{Image};
-ghost use Rattle.udf_volume.specs.Opened.{opened, IsBounded};
-ghost use Rattle.udf_volume_model.specs.Kept.{whole_by};
-ghost use Rattle.udf_volume_model.specs.Rules.{agrees};
-ghost use Rattle.udf_volume.specs.Led.{listed_in};
-ghost use Rattle.udf_volume.specs.Spans.{other_span, limit_stated};
-ghost use Rattle.udf_rules.specs.Found.{findings_in, anchor_report, sequence_report};
-ghost use Rattle.udf_rules.specs.Reported.{anchors_reported, sequences_reported};
+ghost use Rattle.udf_volume.specs.Opened.{opening};
+ghost use Rattle.udf_rules.specs.Findings.{findings_in};
+ghost use Rattle.udf_volume.specs.Over.{IsOver};
 
 use crate::Findings;
 use crate::anchors::check_anchors;
@@ -25,11 +20,8 @@ pub fn check_volume<B: Bench>(
     bench: &mut B,
     volume: &Volume,
 ) -> Result<Findings, WorkStop>
-    requires attached { IsAttached Image (B.files bench.old) }
-    requires within { volume.now.blocks * volume.now.size ≤ (B.files bench.old).image.size }
-    requires large { 512 ≤ volume.now.size }
-    requires bounded { IsBounded volume.now.size volume.now.blocks volume.now }
-    requires opened { B.tells → opened volume.now.size (bytes_of Image (B.held bench.old)) ≡ Ok volume.now }
+    requires over { IsOver volume.now (B.files bench.old) }
+    requires opened { B.tells → opening volume.now.size (bytes_of Image (B.held bench.old)) ≡ Ok volume.now }
     ensures found { B.tells → IfOk result (λ f. f ≡ findings_in volume.now.size (bytes_of Image (B.held bench.old))) }
     ensures reads { OnlyReads B.files B.held B.faults bench.old bench.new WorkStop.Fault result }
 {

@@ -7,49 +7,41 @@
 //! and that of the kept ones.
 //! Mends: the kept descriptors and the block that ends them are copied to the other extent, relocated (`udf_plan`).
 //! Relies on: the kept sequence, which is whole.
-ghost use Rattle.std.specs.Prelude.{◌≡◌, ◌*◌, ◌≤◌, ◌<◌, ◌^◌, ◌++◌, length, map, IfOk, OnOk, IsErrOf, Ok};
-ghost use Rattle.udf_outside.specs.Files.{IsAttached};
+ghost use Rattle.std.specs.Prelude.{◌≡◌, ◌++◌, length, OnOk};
 ghost use Rattle.udf_outside.specs.Stops.{bytes_of};
 ghost use Rattle.udf_outside.specs.Reads.{OnlyReads};
 ghost use Rattle.udf_outside.specs.declared.bench.Role.TheVariants.{Image};
-ghost use Rattle.udf_volume.specs.Opened.{opened, IsBounded};
-ghost use Rattle.udf_volume_model.specs.Kept.{whole_by};
-ghost use Rattle.udf_volume_model.specs.Rules.{agrees};
-ghost use Rattle.udf_volume.specs.Led.{listed_in};
-ghost use Rattle.udf_volume.specs.Spans.{other_span, limit_stated};
-ghost use Rattle.udf_rules.specs.Found.{findings_in, anchor_report, sequence_report};
-ghost use Rattle.udf_rules.specs.Reported.{anchors_reported, sequences_reported};
+ghost use Rattle.udf_volume.specs.Over.{IsOver};
+ghost use Rattle.udf_volume.specs.Spans.{other_span};
+ghost use Rattle.udf_rules.specs.Findings.{sequence_report};
+ghost use Rattle.udf_rules.specs.Reported.{sequences_reported};
 
 use crate::{Finding, Findings, Place};
 use std::alloc::{AllocError, Global};
 use udf_outside::Bench;
-use udf_volume::{DescriptorList, Volume, WorkStop, read_sequence, sequences_agree};
+use udf_volume::{SequenceVerdict, Volume, WorkStop, sequence_verdict};
 
 /// The number of the rule.
 const RULE: u8 = 3;
 
-// Adds what is reported of the other sequence.
-#[tactic(auto, unfolding(crate::specs::Found::sequence_report))]
+// Adds what is reported of a verdict.
+#[tactic(auto, unfolding(crate::specs::Findings::sequence_report))]
 fn report_sequences(
-    alloc: Global,
     findings: &mut Findings,
     volume: &Volume,
-    kept: &DescriptorList,
-    other: &DescriptorList,
+    verdict: &SequenceVerdict,
 ) -> Result<(), AllocError>
-    requires { 512 ≤ volume.now.size }
-    ensures { OnOk result (findings.new ≡ findings.old ++ sequence_report
-        (agrees kept.now.descriptors.items (whole_by (limit_stated volume.now) (listed_in other.now)))
-        (other_span volume.now).start (length other.now.descriptors.items) (length kept.now.descriptors.items)) }
+    ensures { OnOk result (findings.new ≡ findings.old ++ sequence_report verdict.now.holds
+        (other_span volume.now).start (length verdict.now.other.items) (length verdict.now.kept.items)) }
 {
-    if sequences_agree(alloc, &kept.descriptors, other, volume.limit())? {
+    if verdict.holds {
         return Ok(());
     }
     findings.push(Finding {
         rule: RULE,
         place: Place::Sector(volume.other_extent().start),
-        first: other.descriptors.len() as u64,
-        second: kept.descriptors.len() as u64,
+        first: verdict.other.len() as u64,
+        second: verdict.kept.len() as u64,
     })
 }
 
@@ -61,17 +53,13 @@ pub(crate) fn check_sequences<B: Bench>(
     block: &mut [u8],
     findings: &mut Findings,
 ) -> Result<(), WorkStop>
-    requires attached { IsAttached Image (B.files bench.old) }
-    requires within { volume.now.blocks * volume.now.size ≤ (B.files bench.old).image.size }
+    requires over { IsOver volume.now (B.files bench.old) }
     requires room { length block.old ≡ volume.now.size }
-    requires large { 512 ≤ volume.now.size }
-    requires bounded { IsBounded volume.now.size volume.now.blocks volume.now }
     ensures found { B.tells → OnOk result (findings.new ≡ findings.old
         ++ sequences_reported volume.now (bytes_of Image (B.held bench.old))) }
     ensures reads { OnlyReads B.files B.held B.faults bench.old bench.new WorkStop.Fault result }
 {
-    let kept = read_sequence(alloc, bench, volume, volume.kept_extent(), block)?;
-    let other = read_sequence(alloc, bench, volume, volume.other_extent(), block)?;
-    report_sequences(alloc, findings, volume, &kept, &other)?;
+    let verdict = sequence_verdict(alloc, bench, volume, block)?;
+    report_sequences(findings, volume, &verdict)?;
     Ok(())
 }

@@ -7,15 +7,15 @@ use Rattle.udf_repair_model.specs.Sized.{accepted_by, is_accepted_as, unbroken_b
 use Rattle.udf_volume.specs.declared.missing.Missing.{Missing}
 use Rattle.udf_volume.specs.declared.missing.Missing.TheVariants.{Anchor}
 use Rattle.udf_volume.specs.declared.volume.Volume.{Volume}
-use Rattle.udf_volume.specs.Opened.{opened}
-use Rattle.udf_volume.specs.Writable.{opened_writable}
+use Rattle.udf_volume.specs.Opened.{opening}
+use Rattle.udf_volume.specs.Writable.{writable_opening}
 use Rattle.udf_volume.proofs.Described.{opened_ok}
 use Rattle.udf_redo.specs.declared.stop.RedoStop.{RedoStop}
 use Rattle.udf_redo.specs.declared.stop.RedoStop.TheVariants as stop
 use Rattle.udf_redo.specs.Settled.{settled}
 use Rattle.udf_rules.specs.declared.finding.Finding.{Finding}
 use Rattle.udf_top.specs.declared.outcome.Outcome.TheVariants as outcome
-use Rattle.udf_rules.specs.Found.{findings_in}
+use Rattle.udf_rules.specs.Findings.{findings_in}
 use Rattle.udf_top.specs.Repairing.{replaying, refused_log, repaired_as, mend_of, mend_sized, repair_from, repair_of, written_in}
 use Rattle.udf_top.specs.Udffsck.{by_findings, by_opened, check_at, check_sized, check_of}
 use Rattle.udf_top.proofs.Mending.{accepted_ok, not_accepted, mend_ok, mend_refused, none_found, none_unbroken_image, unbroken_finds_none}
@@ -38,35 +38,35 @@ not_clean stop.Fault e = absurd (cc)
 not_clean stop.Memory e = absurd (cc)
 
 module _ (size : ℕ) (image : List ℕ) where
-  check_as : (found : Result Volume Missing) → opened size image ≡ found → check_at size image ≡ by_opened found (findings_in size image)
+  check_as : (found : Result Volume Missing) → opening size image ≡ found → check_at size image ≡ by_opened found (findings_in size image)
   unfolding check_at
   check_as found e = ap (λ (r : Result Volume Missing). by_opened r (findings_in size image)) e
 
-  clean_at : check_at size image ≡ outcome.Clean → (is_ok (opened size image) ≡ true) × (is_unbroken size image ≡ true)
-  clean_at clean = by_answer (opened size image) refl where
-    by_answer : (found : Result Volume Missing) → opened size image ≡ found → (is_ok (opened size image) ≡ true) × (is_unbroken size image ≡ true)
+  clean_at : check_at size image ≡ outcome.Clean → (is_ok (opening size image) ≡ true) × (is_unbroken size image ≡ true)
+  clean_at clean = by_answer (opening size image) refl where
+    by_answer : (found : Result Volume Missing) → opening size image ≡ found → (is_ok (opening size image) ≡ true) × (is_unbroken size image ≡ true)
     by_answer (Ok volume) e =
         let d = opened_ok size image volume e in
         (ap is_ok e, none_found size image d.0 d.1.found (found_none (findings_in size image) (sym (check_as (Ok volume) e) ∙ clean)))
     by_answer (Err missing) e = absurd (let no : outcome.Refused missing ≡ outcome.Clean = sym (check_as (Err missing) e) ∙ clean in cc)
 
-  at_clean : is_ok (opened size image) ≡ true → is_unbroken size image ≡ true → check_at size image ≡ outcome.Clean
-  at_clean ok unbroken = by_answer (opened size image) refl where
-    by_answer : (found : Result Volume Missing) → opened size image ≡ found → check_at size image ≡ outcome.Clean
+  at_clean : is_ok (opening size image) ≡ true → is_unbroken size image ≡ true → check_at size image ≡ outcome.Clean
+  at_clean ok unbroken = by_answer (opening size image) refl where
+    by_answer : (found : Result Volume Missing) → opening size image ≡ found → check_at size image ≡ outcome.Clean
     by_answer (Ok volume) e = check_as (Ok volume) e ∙ ap by_findings (unbroken_finds_none size image unbroken)
     by_answer (Err missing) e = absurd (let no : true ≡ false = sym ok ∙ ap is_ok e in cc)
 
   mend_clean : (replayed : ℕ) → mend_of size replayed image ≡ outcome.Clean → (replayed ≡ 0) × ((is_accepted size image ≡ true) × (is_unbroken size image ≡ true))
-  mend_clean replayed clean = by_answer (opened_writable size image) refl where
-    by_answer : (found : Result Volume Missing) → opened_writable size image ≡ found → (replayed ≡ 0) × ((is_accepted size image ≡ true) × (is_unbroken size image ≡ true))
+  mend_clean replayed clean = by_answer (writable_opening size image) refl where
+    by_answer : (found : Result Volume Missing) → writable_opening size image ≡ found → (replayed ≡ 0) × ((is_accepted size image ≡ true) × (is_unbroken size image ≡ true))
     by_answer (Ok volume) e =
         let none = repaired_none replayed (findings_in size image) (written_in size image) (sym (mend_ok size image replayed volume e) ∙ clean) in
         (none.0, (accepted_ok size image volume e, none_unbroken_image size image volume e none.1))
     by_answer (Err missing) e = absurd (let no : outcome.Refused missing ≡ outcome.Clean = sym (mend_refused size image replayed missing e) ∙ clean in cc)
 
   clean_mend : is_accepted size image ≡ true → is_unbroken size image ≡ true → mend_of size 0 image ≡ outcome.Clean
-  clean_mend accepted unbroken = by_answer (opened_writable size image) refl where
-    by_answer : (found : Result Volume Missing) → opened_writable size image ≡ found → mend_of size 0 image ≡ outcome.Clean
+  clean_mend accepted unbroken = by_answer (writable_opening size image) refl where
+    by_answer : (found : Result Volume Missing) → writable_opening size image ≡ found → mend_of size 0 image ≡ outcome.Clean
     by_answer (Ok volume) e =
         mend_ok size image 0 volume e ∙ ap (λ (fs : List Finding). repaired_as 0 fs (written_in size image)) (unbroken_finds_none size image unbroken)
     by_answer (Err missing) e = absurd (let no : true ≡ false = sym accepted ∙ not_accepted size image missing e in cc)
@@ -74,7 +74,7 @@ module _ (size : ℕ) (image : List ℕ) where
 -- at the block size that is given or found
 module _ (given : Option ℕ) (image : List ℕ) where
   abbrev pub IsCleanAt : ℕ → Type 0
-  IsCleanAt size = (is_ok (opened size image) ≡ true) × (is_unbroken size image ≡ true)
+  IsCleanAt size = (is_ok (opening size image) ≡ true) × (is_unbroken size image ≡ true)
 
   pub clean_check : check_of given image ≡ outcome.Clean → (size : ℕ) × ((size_of given image ≡ Some size) × IsCleanAt size)
   clean_check clean = by_size (size_of given image) refl where
@@ -82,7 +82,7 @@ module _ (given : Option ℕ) (image : List ℕ) where
     by_size None e = absurd (let no : outcome.Refused Anchor ≡ outcome.Clean = sym (ap (λ (f : Option ℕ). check_sized f image) e) ∙ clean in cc)
     by_size (Some size) e = (size, (e, clean_at size image (sym (ap (λ (f : Option ℕ). check_sized f image) e) ∙ clean)))
 
-  pub check_clean : (size : ℕ) → size_of given image ≡ Some size → is_ok (opened size image) ≡ true → is_unbroken size image ≡ true
+  pub check_clean : (size : ℕ) → size_of given image ≡ Some size → is_ok (opening size image) ≡ true → is_unbroken size image ≡ true
       → check_of given image ≡ outcome.Clean
   check_clean size e ok unbroken = ap (λ (f : Option ℕ). check_sized f image) e ∙ at_clean size image ok unbroken
 

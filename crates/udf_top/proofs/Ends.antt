@@ -13,7 +13,7 @@ use Rattle.udf_volume.specs.declared.missing.Missing.{Missing}
 use Rattle.udf_volume.specs.declared.missing.LayerStop.{LayerStop}
 use Rattle.udf_volume.specs.declared.missing.LayerStop.TheVariants as size_stop
 use Rattle.udf_volume.specs.declared.volume.Volume.{Volume}
-use Rattle.udf_volume.specs.Writable.{opened_writable}
+use Rattle.udf_volume.specs.Writable.{writable_opening}
 use Rattle.udf_redo.specs.declared.stop.RedoStop.{RedoStop}
 use Rattle.udf_redo.specs.declared.stop.RedoStop.TheVariants as stop
 use Rattle.udf_redo.specs.Settled.{settled, IsFree, CanGoOn}
@@ -21,7 +21,7 @@ use Rattle.udf_redo.specs.Faults.{Answers}
 use Rattle.udf_rules.specs.declared.finding.Finding.{Finding}
 use Rattle.udf_top.specs.declared.outcome.Outcome.{Outcome}
 use Rattle.udf_top.specs.declared.outcome.Outcome.TheVariants as outcome
-use Rattle.udf_rules.specs.Found.{findings_in}
+use Rattle.udf_rules.specs.Findings.{findings_in}
 use Rattle.udf_top.specs.Texts.{text_of, replayed_text}
 use Rattle.udf_top.specs.Repairing.{replaying, refused_log, refused_size, repaired_as, mend_of, mend_sized, mend_said, said_sized, written_in, repair_from, repair_of, said_from, repair_said}
 use Rattle.udf_top.specs.Endings.{Ending, Mended, Told, DeviceFailed, Failed, ending_of, IsEnd, IsMendedOrFailed, IsUnopened, HasEnded, HasRepaired, HasRepairedOrFailed, HasOpenedNoGate}
@@ -182,20 +182,20 @@ said_as wanted given medium name side pair is same apart =
 
 -- an accepted image is repaired
 accepted_ends : (size replayed : ℕ) (image : List ℕ) → is_accepted size image ≡ true → HasRepairedOrFailed (mend_of size replayed image)
-accepted_ends size replayed image accepted = by_opened (opened_writable size image) refl where
+accepted_ends size replayed image accepted = by_opened (writable_opening size image) refl where
   by_findings : (k : ℕ) (findings : List Finding) (written : ℕ) → HasRepairedOrFailed (repaired_as k findings written)
   by_findings zero [] written = tt
   by_findings zero (finding ∷ rest) written = tt
   by_findings (suc k) findings written = tt
 
-  by_opened : (found : Result Volume Missing) → opened_writable size image ≡ found → HasRepairedOrFailed (mend_of size replayed image)
+  by_opened : (found : Result Volume Missing) → writable_opening size image ≡ found → HasRepairedOrFailed (mend_of size replayed image)
   by_opened (Ok volume) e = subst HasRepairedOrFailed (sym (mend_ok size image replayed volume e)) (by_findings replayed (findings_in size image) (written_in size image))
   by_opened (Err missing) e = absurd (let no : true ≡ false = sym accepted ∙ not_accepted size image missing e in cc)
 
 -- what was repaired was accepted
 repaired_accepted : (size replayed : ℕ) (image : List ℕ) → HasRepaired (mend_of size replayed image) → is_accepted size image ≡ true
-repaired_accepted size replayed image repaired = by_opened (opened_writable size image) refl where
-  by_opened : (found : Result Volume Missing) → opened_writable size image ≡ found → is_accepted size image ≡ true
+repaired_accepted size replayed image repaired = by_opened (writable_opening size image) refl where
+  by_opened : (found : Result Volume Missing) → writable_opening size image ≡ found → is_accepted size image ≡ true
   by_opened (Ok volume) e = accepted_ok size image volume e
   by_opened (Err missing) e = absurd (subst HasRepaired (mend_refused size image replayed missing e) repaired)
 

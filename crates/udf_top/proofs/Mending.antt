@@ -7,8 +7,9 @@ use Rattle.udf_outside.specs.declared.bench.Role.TheVariants.{Image, Side}
 use Rattle.udf_outside.specs.Stops.{Held, Pair, bytes_of, pair_of, IsSettled, LeavesOnly}
 use Rattle.udf_outside.proofs.Runs.{leaves_same}
 use Rattle.udf_volume_model.specs.Kept as model
-use Rattle.udf_volume_model.specs.Kept.{volume_of}
-use Rattle.udf_volume_model.specs.Rules.{Found, findings}
+use Rattle.udf_volume_model.specs.Kept.{kept_sequence_of}
+use Rattle.udf_volume_model.specs.Rules as model_rules
+use Rattle.udf_volume_model.specs.Rules.{findings}
 use Rattle.udf_volume_model.specs.Edits.{put_blocks}
 use Rattle.udf_volume_model.specs.Plans.{IsRewrite}
 use Rattle.udf_volume_model.specs.Opened.{is_volume_unbroken, is_volume_unbroken_by, difference, plan_of}
@@ -20,8 +21,8 @@ use Rattle.udf_volume_laws.proofs.Findings as laws
 use Rattle.udf_volume.specs.declared.missing.Missing.{Missing}
 use Rattle.udf_volume.specs.declared.missing.Missing.TheVariants.{WriteProtected}
 use Rattle.udf_volume.specs.declared.volume.Volume.{Volume}
-use Rattle.udf_volume.specs.Opened.{opened}
-use Rattle.udf_volume.specs.Writable.{opened_writable, is_protected, by_protection}
+use Rattle.udf_volume.specs.Opened.{opening}
+use Rattle.udf_volume.specs.Writable.{writable_opening, is_protected, by_protection}
 use Rattle.udf_volume.proofs.Described.{opened_ok}
 use Rattle.udf_repair_model.proofs.Repair.{accepted_is}
 use Rattle.udf_model.specs.Size.{is_size}
@@ -29,7 +30,7 @@ use Rattle.udf_redo.specs.Settled.{IsFree}
 use Rattle.udf_rules.specs.declared.finding.Finding.{Finding}
 use Rattle.udf_top.specs.declared.outcome.Outcome.{Outcome}
 use Rattle.udf_top.specs.declared.outcome.Outcome.TheVariants as outcome
-use Rattle.udf_rules.specs.Found.{finding_of, findings_by, findings_in}
+use Rattle.udf_rules.specs.Findings.{finding_of, findings_by, findings_in}
 use Rattle.udf_top.specs.Texts.{text_of, mend_text}
 use Rattle.udf_top.specs.Repairing.{repaired_as, mend_by, mend_of, written_in, text_by_volume, mend_said}
 use Rattle.udf_top.specs.Endings.{Ending, Mended, Told, DeviceFailed, Failed, ending_of, IsEnd, IsMendedEnd, HasEnded, HasRepaired, HasOpenedNoGate}
@@ -42,48 +43,48 @@ by_protected : (volume wanted : Volume) (b : Bool) → cond b (Err WriteProtecte
 by_protected volume wanted true e = absurd (cc)
 by_protected volume wanted false e = cc
 
-pub opened_ok_as : (size : ℕ) (image : List ℕ) (volume : Volume) → opened_writable size image ≡ Ok volume → opened size image ≡ Ok volume
-unfolding opened_writable
-opened_ok_as size image volume = by_opened (opened size image) where
+pub opened_ok_as : (size : ℕ) (image : List ℕ) (volume : Volume) → writable_opening size image ≡ Ok volume → opening size image ≡ Ok volume
+unfolding writable_opening
+opened_ok_as size image volume = by_opened (opening size image) where
   by_opened : (found : Result Volume Missing) → by_protection found ≡ Ok volume → found ≡ Ok volume
   by_opened (Ok other) e = ap (λ (v : Volume). Ok v) (by_protected other volume (is_protected other) e)
   by_opened (Err missing) e = e
 
-pub opened_as : (size : ℕ) (image : List ℕ) (volume : Volume) → opened_writable size image ≡ Ok volume → volume.size ≡ size → opened volume.size image ≡ Ok volume
-opened_as size image volume e is = ap (λ (n : ℕ). opened n image) is ∙ opened_ok_as size image volume e
+pub opened_as : (size : ℕ) (image : List ℕ) (volume : Volume) → writable_opening size image ≡ Ok volume → volume.size ≡ size → opening volume.size image ≡ Ok volume
+opened_as size image volume e is = ap (λ (n : ℕ). opening n image) is ∙ opened_ok_as size image volume e
 
-pub accepted_ok : (size : ℕ) (image : List ℕ) (volume : Volume) → opened_writable size image ≡ Ok volume → is_accepted size image ≡ true
+pub accepted_ok : (size : ℕ) (image : List ℕ) (volume : Volume) → writable_opening size image ≡ Ok volume → is_accepted size image ≡ true
 accepted_ok size image volume e = accepted_is size image ∙ ap is_ok e
 
 -- the plan of the volume's rules is that of the repair
-pub plan_is : (size : ℕ) (image : List ℕ) (volume : Volume) (plan : List (ℕ × List ℕ)) → opened_writable size image ≡ Ok volume
+pub plan_is : (size : ℕ) (image : List ℕ) (volume : Volume) (plan : List (ℕ × List ℕ)) → writable_opening size image ≡ Ok volume
     → plan ≡ plan_of size image (mended size image) → plan ≡ plan_of size image (mend size image)
 plan_is size image volume plan e is = is ∙ ap (plan_of size image) (sym (mend_accepted size image (accepted_ok size image volume e)))
 
-pub not_accepted : (size : ℕ) (image : List ℕ) (missing : Missing) → opened_writable size image ≡ Err missing → is_accepted size image ≡ false
+pub not_accepted : (size : ℕ) (image : List ℕ) (missing : Missing) → writable_opening size image ≡ Err missing → is_accepted size image ≡ false
 not_accepted size image missing e = accepted_is size image ∙ ap is_ok e
 
 -- findings come exactly where a rule is broken
-map_none : (founds : List Found) → map finding_of founds ≡ [] → founds ≡ []
+map_none : (founds : List model_rules.Finding) → map finding_of founds ≡ [] → founds ≡ []
 map_none [] e = refl
 map_none (found ∷ rest) e = absurd (cc)
 
 module _ (size : ℕ) (image : List ℕ) where
-  by_volume : (found : Option model.Volume) → is_volume_unbroken_by size image found ≡ true → findings_by size image found ≡ []
+  by_volume : (found : Option model.KeptSequence) → is_volume_unbroken_by size image found ≡ true → findings_by size image found ≡ []
   by_volume None e = absurd (cc)
-  by_volume (Some v) e = ap (λ (fs : List Found). map finding_of fs) (laws.unbroken size (blocks_in size image) (block_of size image) v e)
+  by_volume (Some v) e = ap (λ (fs : List model_rules.Finding). map finding_of fs) (laws.unbroken size (blocks_in size image) (block_of size image) v e)
 
   pub unbroken_finds_none : is_unbroken size image ≡ true → findings_in size image ≡ []
   unfolding is_volume_unbroken findings_in
-  unbroken_finds_none e = by_volume (volume_of size image) e
+  unbroken_finds_none e = by_volume (kept_sequence_of size image) e
 
-  pub none_found : (v : model.Volume) → volume_of size image ≡ Some v → findings_in size image ≡ [] → is_unbroken size image ≡ true
+  pub none_found : (v : model.KeptSequence) → kept_sequence_of size image ≡ Some v → findings_in size image ≡ [] → is_unbroken size image ≡ true
   unfolding is_volume_unbroken findings_in
   none_found v is e =
       ap (is_volume_unbroken_by size image) is
       ∙ laws.broken size (blocks_in size image) (block_of size image) v (map_none _ (sym (ap (findings_by size image) is) ∙ e))
 
-  pub none_unbroken_image : (volume : Volume) → opened_writable size image ≡ Ok volume → findings_in size image ≡ [] → is_unbroken size image ≡ true
+  pub none_unbroken_image : (volume : Volume) → writable_opening size image ≡ Ok volume → findings_in size image ≡ [] → is_unbroken size image ≡ true
   none_unbroken_image volume e none =
       let d = opened_ok size image volume (opened_ok_as size image volume e) in none_found d.0 d.1.found none
 
@@ -99,29 +100,29 @@ module _ (size : ℕ) (image : List ℕ) where
   unfolding plan_of written_in
   written_is = length-map (difference size image (mend size image)) _
 
-  pub said_ok : (medium : List ℕ) (volume : Volume) → opened_writable size image ≡ Ok volume
+  pub said_ok : (medium : List ℕ) (volume : Volume) → writable_opening size image ≡ Ok volume
       → mend_said size medium image ≡ mend_text medium (findings_in size image) (written_in size image)
   unfolding mend_said
   said_ok medium volume e = ap (λ (r : Result Volume Missing). text_by_volume medium r (findings_in size image) (written_in size image)) e
 
   -- what is put before the difference is written
-  pub text_is : (medium : List ℕ) (volume : Volume) (findings : List Finding) (plan : List (ℕ × List ℕ)) (count : ℕ) → opened_writable size image ≡ Ok volume
+  pub text_is : (medium : List ℕ) (volume : Volume) (findings : List Finding) (plan : List (ℕ × List ℕ)) (count : ℕ) → writable_opening size image ≡ Ok volume
       → findings ≡ findings_in size image → plan ≡ plan_of size image (mend size image) → count ≡ length plan → mend_text medium findings count ≡ mend_said size medium image
   text_is medium volume findings plan count e found is n =
       ap (λ (fs : List Finding). mend_text medium fs count) found
       ∙ ap (λ (k : ℕ). mend_text medium (findings_in size image) k) (n ∙ ap length is ∙ written_is)
       ∙ sym (said_ok medium volume e)
 
-  pub said_refused : (medium : List ℕ) (missing : Missing) → opened_writable size image ≡ Err missing → mend_said size medium image ≡ text_of medium (outcome.Refused missing)
+  pub said_refused : (medium : List ℕ) (missing : Missing) → writable_opening size image ≡ Err missing → mend_said size medium image ≡ text_of medium (outcome.Refused missing)
   unfolding mend_said
   said_refused medium missing e = ap (λ (r : Result Volume Missing). text_by_volume medium r (findings_in size image) (written_in size image)) e
 
-  pub mend_ok : (replayed : ℕ) (volume : Volume) → opened_writable size image ≡ Ok volume
+  pub mend_ok : (replayed : ℕ) (volume : Volume) → writable_opening size image ≡ Ok volume
       → mend_of size replayed image ≡ repaired_as replayed (findings_in size image) (written_in size image)
   unfolding mend_of
   mend_ok replayed volume e = ap (λ (r : Result Volume Missing). mend_by r replayed (findings_in size image) (written_in size image)) e
 
-  pub mend_refused : (replayed : ℕ) (missing : Missing) → opened_writable size image ≡ Err missing → mend_of size replayed image ≡ outcome.Refused missing
+  pub mend_refused : (replayed : ℕ) (missing : Missing) → writable_opening size image ≡ Err missing → mend_of size replayed image ≡ outcome.Refused missing
   unfolding mend_of
   mend_refused replayed missing e = ap (λ (r : Result Volume Missing). mend_by r replayed (findings_in size image) (written_in size image)) e
 
@@ -182,7 +183,7 @@ module _ (size : ℕ) (old new : Held) (settled : IsSettled old) (free : IsFree 
     }
 
     -- the image was refused
-    pub mends_refused : (missing : Missing) → opened_writable size (bytes_of Image old) ≡ Err missing → (HasEnded result → result ≡ outcome.Refused missing)
+    pub mends_refused : (missing : Missing) → writable_opening size (bytes_of Image old) ≡ Err missing → (HasEnded result → result ≡ outcome.Refused missing)
         → Mends size replayed old new result
     mends_refused missing e is = record {
       outcome = λ ended. is ended ∙ sym (mend_refused size (bytes_of Image old) replayed missing e);
@@ -193,7 +194,7 @@ module _ (size : ℕ) (old new : Held) (settled : IsSettled old) (free : IsFree 
     }
 
     -- no rule is broken
-    pub mends_unbroken : (volume : Volume) → opened_writable size (bytes_of Image old) ≡ Ok volume → findings_in size (bytes_of Image old) ≡ []
+    pub mends_unbroken : (volume : Volume) → writable_opening size (bytes_of Image old) ≡ Ok volume → findings_in size (bytes_of Image old) ≡ []
         → (HasEnded result → result ≡ repaired_as replayed [] 0) → Mends size replayed old new result
     mends_unbroken volume e none is =
         let image = bytes_of Image old in
@@ -209,7 +210,7 @@ module _ (size : ℕ) (old new : Held) (settled : IsSettled old) (free : IsFree 
         }
 
 -- the difference was written, or a stop came
-pub mends_broken : (size replayed count : ℕ) (old new : Held) (result : Outcome) (volume : Volume) → opened_writable size (bytes_of Image old) ≡ Ok volume
+pub mends_broken : (size replayed count : ℕ) (old new : Held) (result : Outcome) (volume : Volume) → writable_opening size (bytes_of Image old) ≡ Ok volume
     → 1 ≤ length (findings_in size (bytes_of Image old)) → count ≡ written_in size (bytes_of Image old)
     → (HasEnded result → result ≡ outcome.Repaired replayed count) → LeavesOnly old new (IsMending size (bytes_of Image old) (mend size (bytes_of Image old)))
     → (HasEnded result → IsMended (mend size (bytes_of Image old)) new) → (HasOpenedNoGate result → new ≡ old) → Mends size replayed old new result

@@ -5,12 +5,12 @@ use Rattle.std.proofs.lemmas.Nat.{div-add-mod'}
 use Rattle.udf_volume.specs.declared.missing.Missing.{Missing}
 use Rattle.udf_volume.specs.declared.volume.Volume.{Volume}
 use Rattle.udf_volume_model.specs.Size.{size_of}
-use Rattle.udf_volume.specs.Opened.{opened}
+use Rattle.udf_volume.specs.Opened.{opening}
 use Rattle.udf_volume.specs.declared.missing.LayerStop.{LayerStop}
 use Rattle.udf_volume.specs.declared.missing.LayerStop.TheVariants as stops
 use Rattle.udf_rules.specs.declared.finding.Finding.{Finding}
 use Rattle.udf_top.specs.declared.outcome.Outcome.TheVariants as outcome
-use Rattle.udf_rules.specs.Found.{findings_in}
+use Rattle.udf_rules.specs.Findings.{findings_in}
 use Rattle.udf_top.specs.Texts.{replayed_text}
 use Rattle.udf_top.specs.Udffsck.{by_findings, by_opened, check_at, check_sized, check_of, Examines, ExaminesAt, HoldsFront}
 
@@ -19,11 +19,11 @@ pub fits : (volume : Volume) (size length : ℕ) → 512 ≤ size → volume.siz
 fits volume size length large same blocks =
     let e : length / size * size + length % size ≡ length = div-add-mod' length size in rw (same, blocks) (omega arith)
 
-refused : (size : ℕ) (image : List ℕ) (missing : Missing) → opened size image ≡ Err missing → outcome.Refused missing ≡ check_at size image
+refused : (size : ℕ) (image : List ℕ) (missing : Missing) → opening size image ≡ Err missing → outcome.Refused missing ≡ check_at size image
 unfolding check_at
 refused size image missing e = sym (ap (λ (r : Result Volume Missing). by_opened r (findings_in size image)) e)
 
-examined : (size : ℕ) (image : List ℕ) (findings : List Finding) → ((volume : Volume) × (opened size image ≡ Ok volume)) → findings ≡ findings_in size image
+examined : (size : ℕ) (image : List ℕ) (findings : List Finding) → ((volume : Volume) × (opening size image ≡ Ok volume)) → findings ≡ findings_in size image
     → by_findings findings ≡ check_at size image
 unfolding check_at
 examined size image findings (volume, e) is = ap by_findings is ∙ sym (ap (λ (r : Result Volume Missing). by_opened r (findings_in size image)) e)

@@ -10,7 +10,7 @@ use Rattle.udf_volume.specs.declared.missing.Missing.TheVariants.{Anchor}
 use Rattle.udf_volume.specs.declared.missing.LayerStop.{LayerStop}
 use Rattle.udf_volume.specs.declared.missing.LayerStop.TheVariants as size_stop
 use Rattle.udf_volume.specs.declared.volume.Volume.{Volume}
-use Rattle.udf_volume.specs.Writable.{opened_writable}
+use Rattle.udf_volume.specs.Writable.{writable_opening}
 use Rattle.udf_redo.specs.declared.side.SideState.{SideState}
 use Rattle.udf_redo.specs.declared.side.SideState.TheVariants.{Empty, Closed, Open}
 use Rattle.udf_redo.specs.declared.stop.RedoStop.{RedoStop}
@@ -20,7 +20,7 @@ use Rattle.udf_redo.specs.Settled.{settled, replay_answer}
 use Rattle.udf_rules.specs.declared.finding.Finding.{Finding}
 use Rattle.udf_top.specs.declared.outcome.Outcome.{Outcome}
 use Rattle.udf_top.specs.declared.outcome.Outcome.TheVariants as outcome
-use Rattle.udf_rules.specs.Found.{findings_in}
+use Rattle.udf_rules.specs.Findings.{findings_in}
 use Rattle.udf_top.specs.Texts.{text_of, replayed_text, mend_text}
 
 -- how many blocks of an open log of the image are to be replayed, or why the side file is no log of it
@@ -63,7 +63,7 @@ mend_by (Ok volume) replayed findings written = repaired_as replayed findings wr
 
 -- the outcome of a repair of an image, after a replay of so many blocks
 unfoldable pub mend_of : ℕ → ℕ → List ℕ → Outcome
-mend_of size replayed image = mend_by (opened_writable size image) replayed (findings_in size image) (written_in size image)
+mend_of size replayed image = mend_by (writable_opening size image) replayed (findings_in size image) (written_in size image)
 
 -- the same at the block size that is given or found; without one the image is refused
 abbrev pub mend_sized : Option ℕ → ℕ → List ℕ → Outcome
@@ -85,7 +85,7 @@ text_by_volume medium (Ok volume) findings written = mend_text medium findings w
 
 -- what is printed of an image that is to be repaired
 unfoldable pub mend_said : ℕ → List ℕ → List ℕ → List ℕ
-mend_said size medium image = text_by_volume medium (opened_writable size image) (findings_in size image) (written_in size image)
+mend_said size medium image = text_by_volume medium (writable_opening size image) (findings_in size image) (written_in size image)
 
 abbrev pub said_sized : Option ℕ → List ℕ → List ℕ → List ℕ
 said_sized None medium image = text_of medium (outcome.Refused Anchor)

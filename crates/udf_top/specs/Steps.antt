@@ -6,11 +6,11 @@ use Rattle.udf_volume_model.specs.Opened.{plan_of}
 use Rattle.udf_repair_model.specs.Accepted.{mend, is_unbroken}
 use Rattle.udf_volume.specs.declared.missing.LayerStop.{LayerStop}
 use Rattle.udf_volume.specs.declared.missing.LayerStop.TheVariants as stops
-use Rattle.udf_volume.specs.Writable.{opened_writable}
+use Rattle.udf_volume.specs.Writable.{writable_opening}
 use Rattle.udf_redo.specs.Log.{head_in, sealed_in}
 use Rattle.udf_redo.specs.Settled.{settled, CanGoOn, IsFree, SameElsewhere}
 use Rattle.udf_top.specs.declared.udffsck.mend.Inspected.{Inspected}
-use Rattle.udf_rules.specs.Found.{findings_in}
+use Rattle.udf_rules.specs.Findings.{findings_in}
 use Rattle.udf_top.specs.declared.outcome.Outcome.{Outcome}
 use Rattle.udf_top.specs.Repairing.{mend_of, logged, log_size}
 use Rattle.udf_top.specs.Endings.{HasEnded, HasRepaired, HasOpenedNoGate}
@@ -41,8 +41,8 @@ pub record IsMended (after : List ℕ) (end : Held) : Type 0 where
 
 -- what an inspection of an image answers, unless a fault or want of memory came
 abbrev pub Inspects : ℕ → List ℕ → Result Inspected LayerStop → Type 0
-Inspects size image (Ok found) = (opened_writable size image ≡ Ok found.volume) × (found.findings ≡ findings_in size image)
-Inspects size image (Err (stops.Missing missing)) = opened_writable size image ≡ Err missing
+Inspects size image (Ok found) = (writable_opening size image ≡ Ok found.volume) × (found.findings ≡ findings_in size image)
+Inspects size image (Err (stops.Missing missing)) = writable_opening size image ≡ Err missing
 Inspects size image (Err stops.Fault) = Unit {0}
 Inspects size image (Err stops.Memory) = Unit {0}
 

@@ -8,13 +8,13 @@ use Rattle.udf_volume.specs.declared.missing.Missing.TheVariants.{Anchor}
 use Rattle.udf_volume.specs.declared.missing.LayerStop.{LayerStop}
 use Rattle.udf_volume.specs.declared.missing.LayerStop.TheVariants as stops
 use Rattle.udf_volume.specs.declared.volume.Volume.{Volume}
-use Rattle.udf_volume.specs.Opened.{opened}
+use Rattle.udf_volume.specs.Opened.{opening}
 use Rattle.udf_rules.specs.declared.finding.Finding.{Finding}
 use Rattle.udf_top.specs.declared.outcome.Outcome.{Outcome}
 use Rattle.udf_top.specs.declared.outcome.Outcome.TheVariants as outcome
 use Rattle.udf_words.specs.declared.cause.Cause.{Cause}
 use Rattle.udf_words.specs.Words.{Command, command_in}
-use Rattle.udf_rules.specs.Found.{findings_in}
+use Rattle.udf_rules.specs.Findings.{findings_in}
 use Rattle.udf_top.specs.Texts.{text_of}
 use Rattle.udf_top.specs.Repairing.{repair_of, repair_said}
 
@@ -29,7 +29,7 @@ by_opened (Ok volume) findings = by_findings findings
 
 -- the outcome of a check of an image, where nothing fails: the first refusal that applies, or what breaks the rules
 unfoldable pub check_at : ℕ → List ℕ → Outcome
-check_at size image = by_opened (opened size image) (findings_in size image)
+check_at size image = by_opened (opening size image) (findings_in size image)
 
 -- the same at the block size that is given, or else found; without one the image is refused
 abbrev pub check_sized : Option ℕ → List ℕ → Outcome
@@ -82,8 +82,8 @@ Examines given image (Err stops.Memory) = Unit {0}
 
 -- the same at a block size
 abbrev pub ExaminesAt : ℕ → List ℕ → Result (List Finding) LayerStop → Type 0
-ExaminesAt size image (Ok findings) = ((volume : Volume) × (opened size image ≡ Ok volume)) × (findings ≡ findings_in size image)
-ExaminesAt size image (Err (stops.Missing missing)) = opened size image ≡ Err missing
+ExaminesAt size image (Ok findings) = ((volume : Volume) × (opening size image ≡ Ok volume)) × (findings ≡ findings_in size image)
+ExaminesAt size image (Err (stops.Missing missing)) = opening size image ≡ Err missing
 ExaminesAt size image (Err stops.Fault) = Unit {0}
 ExaminesAt size image (Err stops.Memory) = Unit {0}
 

@@ -5,7 +5,7 @@ ghost use Rattle.udf_outside.specs.Stops.{Held, Pair, bytes_of, pair_of};
 ghost use Rattle.udf_volume_model.specs.Size.{size_of};
 ghost use Rattle.udf_repair_model.specs.Accepted.{is_accepted, is_unbroken};
 ghost use Rattle.udf_repair_model.specs.Sized.{is_accepted_as, is_unbroken_as};
-ghost use Rattle.udf_volume.specs.Opened.{opened};
+ghost use Rattle.udf_volume.specs.Opened.{opening};
 ghost use Rattle.udf_redo.specs.Settled.{settled, IsOpenLog};
 ghost use Rattle.udf_top.specs.Repairing.{replaying, repair_of, target, written_in};
 ghost use Rattle.udf_top.specs.Headline.{IsDone};
@@ -19,8 +19,8 @@ use crate::Outcome;
 /// be repaired, and one that breaks none has no such block.
 pub fn clean_law()
     ensures check { (given : Option ℕ) (image : List ℕ) → check_of given image ≡ Outcome.Clean
-        → (size : ℕ) × ((size_of given image ≡ Some size) × ((is_ok (opened size image) ≡ true) × (is_unbroken size image ≡ true))) }
-    ensures checked { (given : Option ℕ) (size : ℕ) (image : List ℕ) → size_of given image ≡ Some size → is_ok (opened size image) ≡ true
+        → (size : ℕ) × ((size_of given image ≡ Some size) × ((is_ok (opening size image) ≡ true) × (is_unbroken size image ≡ true))) }
+    ensures checked { (given : Option ℕ) (size : ℕ) (image : List ℕ) → size_of given image ≡ Some size → is_ok (opening size image) ≡ true
         → is_unbroken size image ≡ true → check_of given image ≡ Outcome.Clean }
     ensures repair { (given : Option ℕ) (pair : Pair) → repair_of given pair ≡ Outcome.Clean
         → (replaying pair ≡ Ok 0) × ((is_accepted_as given (settled pair) ≡ true) × (is_unbroken_as given (settled pair) ≡ true)) }

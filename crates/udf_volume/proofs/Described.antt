@@ -2,7 +2,7 @@
 use Rattle.std.proofs.Common.{◌≡◌, ℕ, refl, ◌∙◌, ap, List, Bool, true, false, cond, Option, Some, None, Result, Ok, Err, ltb, length, ◌/◌}
 use Rattle.udf_model.specs.Image.{block_of, blocks_in}
 use Rattle.udf_volume_model.specs.Anchor.{Anchor, places}
-use Rattle.udf_volume_model.specs.Kept.{kept, other, limit_of, has_anchor, volume_of}
+use Rattle.udf_volume_model.specs.Kept.{kept, other, limit_of, has_anchor, kept_sequence_of}
 use Rattle.udf_volume_model.specs.Kept as model
 use Rattle.udf_volume_model.specs.Stated.{logical, partition}
 use Rattle.udf_volume_model.specs.Areas.{areas_of, integrity_areas, integrity_extent, partition_area}
@@ -12,38 +12,38 @@ use Rattle.udf_volume.specs.declared.volume.Volume.{Volume}
 use Rattle.udf_volume.specs.Seen.{extent_seen}
 use Rattle.udf_volume.specs.Spans.{kept_span, other_span, limit_stated}
 use Rattle.udf_volume.specs.Areas.{anchor_stated, areas_stated}
-use Rattle.udf_volume.specs.Opened.{volume_by, refusal_of, by_refusal, accepted, by_volume, opened}
+use Rattle.udf_volume.specs.Opened.{volume_by, refusal_of, by_refusal, accepted, by_volume, opening}
 
 -- the volume has the fields that are stated of a kept sequence of the image
-pub record Describes (size : ℕ) (image : List ℕ) (volume : Volume) (v : model.Volume) : Type 0 where
-  pub found : volume_of size image ≡ Some v
+pub record Describes (size : ℕ) (image : List ℕ) (volume : Volume) (v : model.KeptSequence) : Type 0 where
+  pub found : kept_sequence_of size image ≡ Some v
   pub is : volume ≡ volume_by size (blocks_in size image) v (logical v.list) (partition v.list)
 
 by_refused : (refusal : Option Missing) (fields volume : Volume) → by_refusal refusal fields ≡ Ok volume → volume ≡ fields
 by_refused None fields volume e = cc
 by_refused (Some missing) fields volume e = cc
 
-ok_volume : (size blocks : ℕ) (disk : ℕ → List ℕ) (any : Bool) (found : Option model.Volume) (volume : Volume) → by_volume size blocks disk any found ≡ Ok volume
-    → (v : model.Volume) × (found ≡ Some v) × (volume ≡ volume_by size blocks v (logical v.list) (partition v.list))
+ok_volume : (size blocks : ℕ) (disk : ℕ → List ℕ) (any : Bool) (found : Option model.KeptSequence) (volume : Volume) → by_volume size blocks disk any found ≡ Ok volume
+    → (v : model.KeptSequence) × (found ≡ Some v) × (volume ≡ volume_by size blocks v (logical v.list) (partition v.list))
 unfolding accepted
 ok_volume size blocks disk true None volume e = cc
 ok_volume size blocks disk false None volume e = cc
 ok_volume size blocks disk any (Some v) volume e =
     (v, refl, by_refused (refusal_of size blocks disk v) (volume_by size blocks v (logical v.list) (partition v.list)) volume e)
 
-pub opened_ok : (size : ℕ) (image : List ℕ) (volume : Volume) → opened size image ≡ Ok volume → (v : model.Volume) × Describes size image volume v
-unfolding opened
+pub opened_ok : (size : ℕ) (image : List ℕ) (volume : Volume) → opening size image ≡ Ok volume → (v : model.KeptSequence) × Describes size image volume v
+unfolding opening
 opened_ok size image volume = by_size (ltb 4294967295 (length image / size)) where
   rest : Result Volume Missing
-  rest = by_volume size (blocks_in size image) (block_of size image) (has_anchor size (blocks_in size image) (block_of size image) (places (blocks_in size image))) (volume_of size image)
+  rest = by_volume size (blocks_in size image) (block_of size image) (has_anchor size (blocks_in size image) (block_of size image) (places (blocks_in size image))) (kept_sequence_of size image)
 
-  by_size : (b : Bool) → cond b (Err missing.TooLarge) rest ≡ Ok volume → (v : model.Volume) × Describes size image volume v
+  by_size : (b : Bool) → cond b (Err missing.TooLarge) rest ≡ Ok volume → (v : model.KeptSequence) × Describes size image volume v
   by_size true e = cc
   by_size false e =
-      let found = ok_volume size (blocks_in size image) (block_of size image) _ (volume_of size image) volume e in
+      let found = ok_volume size (blocks_in size image) (block_of size image) _ (kept_sequence_of size image) volume e in
       (found.0, record { found = found.1; is = found.2 })
 
-module _ (size : ℕ) (image : List ℕ) (volume : Volume) (v : model.Volume) (d : Describes size image volume v) where
+module _ (size : ℕ) (image : List ℕ) (volume : Volume) (v : model.KeptSequence) (d : Describes size image volume v) where
   pub size_is : volume.size ≡ size
   unfolding volume_by
   size_is = ap (λ (x : Volume). x.size) d.is

@@ -1,5 +1,5 @@
 -- Extents that lie in the image.
-use Rattle.std.proofs.Common.{◌≡◌, ℕ, ◌+◌, ◌*◌, ◌^◌, ◌<◌, ◌≤◌, arith, refl, inl, ltb, true, false, List, [], ◌∷◌, length}
+use Rattle.std.proofs.Common.{◌≡◌, ℕ, ◌+◌, ◌*◌, ◌^◌, ◌<◌, ◌≤◌, arith, refl, subst, inl, ltb, true, false, List, [], ◌∷◌, length}
 use Rattle.std.proofs.Math.Nat.{mul-le-mul_right}
 use Rattle.std.proofs.lemmas.Bool.{and_parts, leb-true, ltb-true}
 use Rattle.udf_volume_model.specs.Sequence.{Descriptor}
@@ -12,6 +12,7 @@ use Rattle.udf_volume.specs.declared.volume.Volume.{Volume}
 use Rattle.udf_volume.specs.declared.kept.Led.{Led}
 use Rattle.udf_volume.specs.declared.volume.Which.{Which}
 use Rattle.udf_volume.specs.declared.volume.Which.TheVariants as which
+use Rattle.udf_volume.proofs.Leads.{sector_is}
 use Rattle.udf_volume_model.specs.Anchor.{Extent, Anchor, blocks_of, blocks_for, is_extent, names_extents}
 
 pub ends_in : (size blocks : ℕ) (extent : Extent) → is_extent size blocks extent ≡ true → extent.start + blocks_of size extent ≤ blocks
@@ -32,6 +33,12 @@ pub both : (size blocks : ℕ) (anchor : Anchor) → names_extents size blocks a
     → (is_extent size blocks anchor.main ≡ true) × (is_extent size blocks anchor.reserve ≡ true)
 unfolding names_extents
 both size blocks anchor e = and_parts _ _ e
+
+-- one of the extents that an anchor names
+pub named : (size blocks : ℕ) (anchor : Anchor) (which : Which) → names_extents size blocks anchor ≡ true
+    → is_extent size blocks (extent_of (which_seen which) anchor) ≡ true
+named size blocks anchor which.Main e = (both size blocks anchor e).0
+named size blocks anchor which.Reserve e = (both size blocks anchor e).1
 
 limits : (size : ℕ) (anchor : Anchor) → (limit_of size anchor ≤ blocks_of size anchor.main) × (limit_of size anchor ≤ blocks_of size anchor.reserve)
 unfolding limit_of
@@ -78,6 +85,10 @@ bounded size blocks led logical partition small is = record {
   some = nonempty _ _ is.complete;
   short = fewer (limit_of size (anchor_seen led.anchor)) led.descriptors.items is.complete;
   descriptors_inside = by_which led.which (descriptors_in size blocks led is);
+  logical_inside =
+      let P : ℕ → Type 0 = λ n. n < blocks in
+      subst P (sector_is (led_seen led) 6 [] led.leading.logical _ is.leading.logical refl)
+      (omega (arith, descriptors_in size blocks led is, is.leading.logical_inside));
 } where
   by_which : (w : Which) → (extent_of (which_seen w) (anchor_seen led.anchor)).start + length led.descriptors.items ≤ blocks
       → (span_by (which_of (which_seen w)) (volume_by size blocks (led_seen led) logical partition)).start + length led.descriptors.items ≤ blocks

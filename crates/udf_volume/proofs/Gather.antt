@@ -3,9 +3,9 @@ use Rattle.std.proofs.Common.{◌≡◌, ℕ, suc, ◌+◌, ◌-◌, ◌<◌, ar
 use Rattle.std.proofs.lemmas.List.{append-nil}
 use Rattle.udf_model.specs.Image.{block_of}
 use Rattle.udf_volume_model.specs.Sequence.{Descriptor, View, End, Spoiled, Listed, view_of, views, front_of, is_spoilt}
-use Rattle.udf_volume.specs.Says.{said}
-use Rattle.udf_volume.specs.declared.sequence.Says.{Says}
-use Rattle.udf_volume.specs.declared.sequence.Says.TheVariants as says
+use Rattle.udf_volume.specs.Views.{view_seen}
+use Rattle.udf_volume.specs.declared.sequence.View as code
+use Rattle.udf_volume.specs.declared.sequence.View.TheVariants as code_view
 
 views_next : (disk : ℕ → List ℕ) (start count i : ℕ) → i < count
     → views disk (start + i) (count - i) ≡ view_of (disk (start + i)) ∷ views disk (start + (i + 1)) (count - (i + 1))
@@ -33,34 +33,34 @@ module _ (size : ℕ) (image : List ℕ) (start count : ℕ) where
         spoilt = ap (λ k. is_spoilt (views disk k (count - 0))) s ∙ ap (λ k. is_spoilt (views disk start k)) n;
       }
 
-  seen : (i : ℕ) (block : List ℕ) (told : Says) (view : View) → i < count → block ≡ disk (start + i) → said told ≡ view_of block → said told ≡ view
+  seen : (i : ℕ) (block : List ℕ) (told : code.View) (view : View) → i < count → block ≡ disk (start + i) → view_seen told ≡ view_of block → view_seen told ≡ view
       → views disk (start + i) (count - i) ≡ view ∷ views disk (start + (i + 1)) (count - (i + 1))
   seen i block told view h is says e =
       views_next disk start count i h
       ∙ ap (λ v. v ∷ views disk (start + (i + 1)) (count - (i + 1))) (ap view_of (sym is) ∙ sym says ∙ e)
 
-  pub ends : (i : ℕ) (front : List Descriptor) (block : List ℕ) (told : Says) → i < count → SoFar disk start count i front
-      → block ≡ disk (start + i) → said told ≡ view_of block → told ≡ says.End
+  pub ends : (i : ℕ) (front : List Descriptor) (block : List ℕ) (told : code.View) → i < count → SoFar disk start count i front
+      → block ≡ disk (start + i) → view_seen told ≡ view_of block → told ≡ code_view.End
       → (front ≡ front_of (views disk start count)) × (false ≡ is_spoilt (views disk start count))
   unfolding front_of is_spoilt
   ends i front block told h so_far is tells e =
-      let v = seen i block told End h is tells (ap said e) in
+      let v = seen i block told End h is tells (ap view_seen e) in
       (sym (append-nil front) ∙ ap (λ l. front ++ front_of l) (sym v) ∙ so_far.list, ap is_spoilt (sym v) ∙ so_far.spoilt)
 
-  pub spoils : (i : ℕ) (front : List Descriptor) (block : List ℕ) (told : Says) → i < count → SoFar disk start count i front
-      → block ≡ disk (start + i) → said told ≡ view_of block → told ≡ says.Spoiled
+  pub spoils : (i : ℕ) (front : List Descriptor) (block : List ℕ) (told : code.View) → i < count → SoFar disk start count i front
+      → block ≡ disk (start + i) → view_seen told ≡ view_of block → told ≡ code_view.Spoiled
       → (front ≡ front_of (views disk start count)) × (true ≡ is_spoilt (views disk start count))
   unfolding front_of is_spoilt
   spoils i front block told h so_far is tells e =
-      let v = seen i block told Spoiled h is tells (ap said e) in
+      let v = seen i block told Spoiled h is tells (ap view_seen e) in
       (sym (append-nil front) ∙ ap (λ l. front ++ front_of l) (sym v) ∙ so_far.list, ap is_spoilt (sym v) ∙ so_far.spoilt)
 
-  pub goes_on : (i : ℕ) (front : List Descriptor) (block : List ℕ) (told : Says) (d : Descriptor) → i < count → SoFar disk start count i front
-      → block ≡ disk (start + i) → said told ≡ view_of block → told ≡ says.Listed d
+  pub goes_on : (i : ℕ) (front : List Descriptor) (block : List ℕ) (told : code.View) (d : Descriptor) → i < count → SoFar disk start count i front
+      → block ≡ disk (start + i) → view_seen told ≡ view_of block → told ≡ code_view.Listed d
       → SoFar disk start count (i + 1) (front ++ d ∷ [])
   unfolding front_of is_spoilt
   goes_on i front block told d h so_far is tells e =
-      let v = seen i block told (Listed d) h is tells (ap said e) in
+      let v = seen i block told (Listed d) h is tells (ap view_seen e) in
       record {
         list =
             append_assoc front (d ∷ []) (front_of (views disk (start + (i + 1)) (count - (i + 1))))

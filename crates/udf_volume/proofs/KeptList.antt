@@ -3,7 +3,7 @@ use Rattle.std.proofs.Common.{◌≡◌, ℕ, refl, sym, ◌∙◌, subst, List,
 use Rattle.udf_model.specs.Image.{block_of, blocks_in}
 use Rattle.udf_volume_model.specs.Sequence.{Descriptor, View, listed, views, front_of, is_spoilt}
 use Rattle.udf_volume_model.specs.Anchor.{Extent, Anchor, blocks_of, places, anchor_in}
-use Rattle.udf_volume_model.specs.Kept.{Volume, Main, Reserve, kept, is_complete, whole_by, limit_of, sequence_at, volume_by, volume_at, led_from, or_else, volume_in, volume_of}
+use Rattle.udf_volume_model.specs.Kept.{KeptSequence, Main, Reserve, kept, is_complete, whole_by, limit_of, sequence_at, kept_sequence_by, kept_sequence_at, led_from, or_else, kept_sequence_in, kept_sequence_of}
 use Rattle.udf_volume_model.proofs.Listed.{listed_is}
 
 whole_listed : (limit : ℕ) (found : Option (List Descriptor)) (list : List Descriptor) → whole_by limit found ≡ Some list → found ≡ Some list
@@ -14,7 +14,7 @@ whole_listed limit (Some others) list = by_complete (is_complete limit others) w
   by_complete false e = cc
 
 module _ (size : ℕ) (disk : ℕ → List ℕ) where
-  abbrev ListsKept : Volume → Type 0
+  abbrev ListsKept : KeptSequence → Type 0
   ListsKept v = listed (views disk (kept v).start (blocks_of size (kept v))) ≡ Some v.list
 
   at_extent : (limit : ℕ) (extent : Extent) (list : List Descriptor) → sequence_at size disk limit extent ≡ Some list
@@ -22,9 +22,9 @@ module _ (size : ℕ) (disk : ℕ → List ℕ) where
   unfolding sequence_at
   at_extent limit extent list e = whole_listed limit _ list e
 
-  by_sequences : (place : ℕ) (anchor : Anchor) (v : Volume) (main reserve : Option (List Descriptor))
+  by_sequences : (place : ℕ) (anchor : Anchor) (v : KeptSequence) (main reserve : Option (List Descriptor))
       → sequence_at size disk (limit_of size anchor) anchor.main ≡ main → sequence_at size disk (limit_of size anchor) anchor.reserve ≡ reserve
-      → volume_by place anchor main reserve ≡ Some v → ListsKept v
+      → kept_sequence_by place anchor main reserve ≡ Some v → ListsKept v
   by_sequences place anchor v (Some list) reserve m r e =
       let is : record { place = place; anchor = anchor; which = Main; list = list } ≡ v = cc in
       subst ListsKept is (at_extent (limit_of size anchor) anchor.main list m)
@@ -33,17 +33,17 @@ module _ (size : ℕ) (disk : ℕ → List ℕ) where
       subst ListsKept is (at_extent (limit_of size anchor) anchor.reserve list r)
   by_sequences place anchor v None None m r e = absurd (let none : None ≡ Some v = e in cc)
 
-  by_anchor : (place : ℕ) (found : Option Anchor) (v : Volume) → volume_at size disk place found ≡ Some v → ListsKept v
+  by_anchor : (place : ℕ) (found : Option Anchor) (v : KeptSequence) → kept_sequence_at size disk place found ≡ Some v → ListsKept v
   by_anchor place None v e = absurd (let none : None ≡ Some v = e in cc)
   by_anchor place (Some anchor) v e = by_sequences place anchor v _ _ refl refl e
 
-  by_first : (first rest : Option Volume) (v : Volume) → ((w : Volume) → first ≡ Some w → ListsKept w) → (rest ≡ Some v → ListsKept v)
+  by_first : (first rest : Option KeptSequence) (v : KeptSequence) → ((w : KeptSequence) → first ≡ Some w → ListsKept w) → (rest ≡ Some v → ListsKept v)
       → or_else first rest ≡ Some v → ListsKept v
   by_first None rest v here there e = there e
   by_first (Some w) rest v here there e = subst ListsKept (let is : w ≡ v = cc in is) (here w refl)
 
-  pub lists_kept : (blocks : ℕ) (list : List ℕ) (v : Volume) → volume_in size blocks disk list ≡ Some v → ListsKept v
-  unfolding volume_in led_from
+  pub lists_kept : (blocks : ℕ) (list : List ℕ) (v : KeptSequence) → kept_sequence_in size blocks disk list ≡ Some v → ListsKept v
+  unfolding kept_sequence_in led_from
   lists_kept blocks [] v e = absurd (let none : None ≡ Some v = e in cc)
   lists_kept blocks (place ∷ rest) v e =
       by_first _ _ v (λ w. by_anchor place (anchor_in size blocks place (disk place)) w) (lists_kept blocks rest v) e
@@ -53,9 +53,9 @@ front_by list wanted true e = cc
 front_by list wanted false e = cc
 
 -- the descriptors that are read from the kept extent
-pub kept_front : (size : ℕ) (image : List ℕ) (v : Volume) → volume_of size image ≡ Some v
+pub kept_front : (size : ℕ) (image : List ℕ) (v : KeptSequence) → kept_sequence_of size image ≡ Some v
     → front_of (views (block_of size image) (kept v).start (blocks_of size (kept v))) ≡ v.list
-unfolding volume_of
+unfolding kept_sequence_of
 kept_front size image v e =
     let said = views (block_of size image) (kept v).start (blocks_of size (kept v)) in
     front_by said v.list (is_spoilt said) (sym (listed_is said) ∙ lists_kept size (block_of size image) (blocks_in size image) (places (blocks_in size image)) v e)

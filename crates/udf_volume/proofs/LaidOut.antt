@@ -16,7 +16,7 @@ by_length : (size count : ℕ) (bitmap : Short) (b : Bool) → is_bitmap_at size
 by_length size count bitmap true = refl
 by_length size count bitmap false = refl
 
-module _ (size blocks : ℕ) (disk : ℕ → List ℕ) (v : model.Volume) where
+module _ (size blocks : ℕ) (disk : ℕ → List ℕ) (v : model.KeptSequence) where
   abbrev fields : Volume
   fields = volume_by size blocks v (logical v.list) (partition v.list)
 

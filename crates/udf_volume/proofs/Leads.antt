@@ -9,6 +9,8 @@ use Rattle.udf_volume_model.specs.Sequence.{Descriptor}
 use Rattle.udf_volume_model.specs.Kept as model
 use Rattle.udf_volume_model.specs.Kept.{has_id, is_complete, kept}
 use Rattle.udf_volume_model.specs.Prevailing.{subject_of, is_of, prevailing, prevailing_index}
+use Rattle.udf_volume_model.specs.Stated.{volume_information}
+use Rattle.udf_volume.specs.declared.leading.TheConstants.{LV_INFO}
 use Rattle.udf_volume.specs.Best.{IsBest}
 use Rattle.udf_volume.specs.Opened.{sector_in}
 use Rattle.udf_volume.proofs.Prevail.{found}
@@ -47,8 +49,24 @@ has_both limit list e =
     ((and_parts _ _ rest).0, (and_parts _ _ (and_parts _ _ rest).1).1)
 
 -- the sector of a descriptor that is there is no default
-pub sector_is : (volume : model.Volume) (kind : ℕ) (subject : List ℕ) (index sector : ℕ) → Some index ≡ prevailing_index kind subject volume.list
+pub sector_is : (volume : model.KeptSequence) (kind : ℕ) (subject : List ℕ) (index sector : ℕ) → Some index ≡ prevailing_index kind subject volume.list
     → sector ≡ (kept volume).start + index → sector ≡ unwrap_or (sector_in volume kind subject) 0
 unfolding sector_in
 sector_is volume kind subject index sector e is =
     is ∙ ap (λ (o : Option ℕ). unwrap_or (option_map (λ i. (kept volume).start + i) o) 0) e
+
+pub information_is : LV_INFO ≡ volume_information
+unfolding volume_information
+information_is = refl
+
+-- a sector, where a descriptor prevails
+pub some_sector : (volume : model.KeptSequence) (kind : ℕ) (subject : List ℕ) (found : Option ℕ) (index sector : ℕ) → found ≡ prevailing_index kind subject volume.list
+    → found ≡ Some index → sector ≡ (kept volume).start + index → Some sector ≡ sector_in volume kind subject
+unfolding sector_in
+some_sector volume kind subject found index sector e some is =
+    ap Some is ∙ ap (option_map (λ i. (kept volume).start + i)) (sym some ∙ e)
+
+pub no_sector : (volume : model.KeptSequence) (kind : ℕ) (subject : List ℕ) (found : Option ℕ) → found ≡ prevailing_index kind subject volume.list
+    → found ≡ None → None ≡ sector_in volume kind subject
+unfolding sector_in
+no_sector volume kind subject found e none = ap (option_map (λ i. (kept volume).start + i)) (sym none ∙ e)

@@ -16,4 +16,6 @@ pub mod Laying
 pub mod LaidOut
 pub mod Protected
 pub mod Parted
+pub mod Parts
+pub mod Judged
 mod Sized

@@ -5,11 +5,11 @@ use Rattle.std.proofs.lemmas.Nat.{div-add-mod'}
 use Rattle.std.proofs.lemmas.Bool.{lt-ltb, le-ltb}
 use Rattle.udf_model.specs.Image.{block_of}
 use Rattle.udf_volume_model.specs.Anchor.{places}
-use Rattle.udf_volume_model.specs.Kept.{has_anchor, volume_in, volume_of}
+use Rattle.udf_volume_model.specs.Kept.{has_anchor, kept_sequence_in, kept_sequence_of}
 use Rattle.udf_volume.specs.declared.missing.Missing.{Missing}
 use Rattle.udf_volume.specs.declared.missing.Missing.TheVariants as missing
-use Rattle.udf_volume.specs.declared.kept.Found.{Found}
-use Rattle.udf_volume.specs.declared.kept.Found.TheVariants.{Nothing, Unled, Kept}
+use Rattle.udf_volume.specs.declared.kept.AnchorSearch.{AnchorSearch}
+use Rattle.udf_volume.specs.declared.kept.AnchorSearch.TheVariants.{Nothing, Unled, Kept}
 use Rattle.udf_volume.specs.Led.{Finds, led_seen}
 use Rattle.udf_volume.specs.Laid.{is_laid}
 use Rattle.udf_volume.proofs.LaidOut.{laid_is}
@@ -20,18 +20,17 @@ use Rattle.udf_volume.specs.declared.missing.ProfileItem.TheVariants as item
 use Rattle.udf_volume_model.specs.Sequence.{Descriptor}
 use Rattle.udf_volume_model.specs.Prevailing.{prevailing}
 use Rattle.udf_volume_model.specs.Kept as model
-use Rattle.udf_volume_model.specs.Stated.{volume_information, body_of, map_number, mapped_partition, has_one_map, is_built, logical, partition}
+use Rattle.udf_volume_model.specs.Stated.{body_of, map_number, mapped_partition, has_one_map, is_built, logical, partition}
 use Rattle.udf_volume.specs.declared.volume.Volume.{Volume}
 use Rattle.udf_volume.specs.declared.volume.Which.{Which}
 use Rattle.udf_volume.specs.declared.volume.Which.TheVariants as which
-use Rattle.udf_volume.specs.declared.open.TheConstants.{LV_INFO}
 use Rattle.udf_volume.specs.Seen.{which_seen}
-use Rattle.udf_volume.specs.Opened.{volume_by, which_of, stated_in, by_profile, by_refusal, unlike_profile, unlike_maps, refusal_of, accepted, by_volume, opened}
+use Rattle.udf_volume.specs.Opened.{volume_by, which_of, stated_in, by_profile, by_refusal, unlike_profile, unlike_maps, refusal_of, accepted, by_volume, opening}
 
 pub whole_blocks : (bytes size whole : ℕ) → whole ≡ bytes / size → whole * size ≤ bytes
 whole_blocks bytes size whole is = let e : bytes / size * size + bytes % size ≡ bytes = div-add-mod' bytes size in rw is (omega arith)
 
-module _ (size blocks : ℕ) (volume : model.Volume) where
+module _ (size blocks : ℕ) (volume : model.KeptSequence) where
   stated_by : (built : Bool) → is_built volume.list ≡ built
       → stated_in size blocks volume ≡ cond built (Some (volume_by size blocks volume (logical volume.list) (partition volume.list))) None
   unfolding stated_in
@@ -77,17 +76,13 @@ pub which_back : (w : Which) → w ≡ which_of (which_seen w)
 which_back which.Main = refl
 which_back which.Reserve = refl
 
-pub information_is : LV_INFO ≡ volume_information
-unfolding volume_information
-information_is = refl
-
 -- what is answered for what the places hold
-abbrev pub answer_of : ℕ → ℕ → (ℕ → List ℕ) → Found → Result Volume Missing
+abbrev pub answer_of : ℕ → ℕ → (ℕ → List ℕ) → AnchorSearch → Result Volume Missing
 answer_of size blocks disk Nothing = Err missing.Anchor
 answer_of size blocks disk Unled = Err missing.Sequence
 answer_of size blocks disk (Kept led) = accepted size blocks disk (led_seen led)
 
-by_finds : (size blocks : ℕ) (disk : ℕ → List ℕ) (volume : Option model.Volume) (any : Bool) (found : Found) → Finds volume any found
+by_finds : (size blocks : ℕ) (disk : ℕ → List ℕ) (volume : Option model.KeptSequence) (any : Bool) (found : AnchorSearch) → Finds volume any found
     → by_volume size blocks disk any volume ≡ answer_of size blocks disk found
 by_finds size blocks disk volume any Nothing (v, a) =
     ap (by_volume size blocks disk any) v ∙ ap (λ (b : Bool). cond b (Err missing.Sequence) (Err missing.Anchor)) a
@@ -96,26 +91,26 @@ by_finds size blocks disk volume any Unled (v, a) =
 by_finds size blocks disk volume any (Kept led) v = ap (by_volume size blocks disk any) v
 
 module _ (size n : ℕ) (image : List ℕ) (is : n ≡ length image) where
-  pub too_large : 4294967295 < n / size → opened size image ≡ Err missing.TooLarge
-  unfolding opened
+  pub too_large : 4294967295 < n / size → opening size image ≡ Err missing.TooLarge
+  unfolding opening
   too_large h =
       let many : ltb 4294967295 (length image / size) ≡ true = lt-ltb _ _ (let P : ℕ → Type 0 = λ k. 4294967295 < k / size in subst P is h) in
       ap (λ (b : Bool). cond b (Err missing.TooLarge)
       (by_volume size (length image / size) (block_of size image) (has_anchor size (length image / size) (block_of size image) (places (length image / size)))
-      (volume_of size image))) many
+      (kept_sequence_of size image))) many
 
-  pub opened_as : (list : List ℕ) (found : Found) → n / size ≤ 4294967295 → list ≡ places (n / size)
-      → Finds (volume_in size (n / size) (block_of size image) list) (has_anchor size (n / size) (block_of size image) list) found
-      → opened size image ≡ answer_of size (n / size) (block_of size image) found
-  unfolding opened volume_of
+  pub opened_as : (list : List ℕ) (found : AnchorSearch) → n / size ≤ 4294967295 → list ≡ places (n / size)
+      → Finds (kept_sequence_in size (n / size) (block_of size image) list) (has_anchor size (n / size) (block_of size image) list) found
+      → opening size image ≡ answer_of size (n / size) (block_of size image) found
+  unfolding opening kept_sequence_of
   opened_as list found h at f =
       let few : ltb 4294967295 (length image / size) ≡ false = le-ltb _ _ (let P : ℕ → Type 0 = λ k. k / size ≤ 4294967295 in subst P is h) in
       let expected : ℕ → Result Volume Missing = λ k. by_volume size (k / size) (block_of size image)
       (has_anchor size (k / size) (block_of size image) (places (k / size)))
-      (volume_in size (k / size) (block_of size image) (places (k / size))) in
+      (kept_sequence_in size (k / size) (block_of size image) (places (k / size))) in
       ap (λ (b : Bool). cond b (Err missing.TooLarge) (expected (length image))) few
       ∙ ap expected (sym is)
-      ∙ ap (λ l. by_volume size (n / size) (block_of size image) (has_anchor size (n / size) (block_of size image) l) (volume_in size (n / size) (block_of size image) l)) (sym at)
+      ∙ ap (λ l. by_volume size (n / size) (block_of size image) (has_anchor size (n / size) (block_of size image) l) (kept_sequence_in size (n / size) (block_of size image) l)) (sym at)
       ∙ by_finds size (n / size) (block_of size image) _ _ found f
 
 -- a list that is like the profile has built maps
@@ -138,7 +133,7 @@ like_is_built : (size : ℕ) (list : List Descriptor) → unlike_profile size li
 unfolding unlike_profile
 like_is_built size list e = built_by list (is_built list) refl (maps_of list (has_block_size size list) (has_domain list) (has_revision list) (has_pointer list) (unlike_maps list) e)
 
-module _ (size blocks : ℕ) (disk : ℕ → List ℕ) (v : model.Volume) where
+module _ (size blocks : ℕ) (disk : ℕ → List ℕ) (v : model.KeptSequence) where
   abbrev fields : Volume
   fields = volume_by size blocks v (logical v.list) (partition v.list)
 

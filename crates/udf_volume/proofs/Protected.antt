@@ -4,7 +4,7 @@ use Rattle.std.specs.Prelude.{is_none}
 use Rattle.udf_model.specs.Image.{block_of, blocks_in}
 use Rattle.udf_volume_model.specs.Anchor.{places}
 use Rattle.udf_volume_model.specs.Kept as model
-use Rattle.udf_volume_model.specs.Kept.{has_anchor, volume_of}
+use Rattle.udf_volume_model.specs.Kept.{has_anchor, kept_sequence_of}
 use Rattle.udf_volume_model.specs.Sequence.{Descriptor}
 use Rattle.udf_volume_model.specs.Stated.{is_built, logical, partition}
 use Rattle.udf_volume_model.specs.Profile.{has_block_size, has_domain, has_revision, has_pointer, has_no_tables, is_profile, is_protected as is_protected_list, is_guarded_list}
@@ -15,20 +15,20 @@ use Rattle.udf_volume.specs.declared.missing.Missing.TheVariants as missing
 use Rattle.udf_volume.specs.declared.missing.ProfileItem.{ProfileItem}
 use Rattle.udf_volume.specs.declared.missing.ProfileItem.TheVariants as item
 use Rattle.udf_volume.specs.declared.volume.Volume.{Volume}
-use Rattle.udf_volume.specs.Opened.{volume_by, is_guarded, unlike_profile, unlike_maps, by_profile, by_refusal, refusal_of, accepted, by_volume, opened}
-use Rattle.udf_volume.specs.Writable.{is_protected, by_protection, opened_writable}
+use Rattle.udf_volume.specs.Opened.{volume_by, is_guarded, unlike_profile, unlike_maps, by_profile, by_refusal, refusal_of, accepted, by_volume, opening}
+use Rattle.udf_volume.specs.Writable.{is_protected, by_protection, writable_opening}
 
 module _ (size : ℕ) (image : List ℕ) where
-  pub refused_first : (missing : Missing) → opened size image ≡ Err missing → opened_writable size image ≡ Err missing
-  unfolding opened_writable
+  pub refused_first : (missing : Missing) → opening size image ≡ Err missing → writable_opening size image ≡ Err missing
+  unfolding writable_opening
   refused_first missing e = ap by_protection e
 
-  pub protected : (volume : Volume) → opened size image ≡ Ok volume → true ≡ is_protected volume → opened_writable size image ≡ Err missing.WriteProtected
-  unfolding opened_writable
+  pub protected : (volume : Volume) → opening size image ≡ Ok volume → true ≡ is_protected volume → writable_opening size image ≡ Err missing.WriteProtected
+  unfolding writable_opening
   protected volume e p = ap by_protection e ∙ ap (λ b. cond b (Err missing.WriteProtected) (Ok volume)) (sym p)
 
-  pub unprotected : (volume : Volume) → opened size image ≡ Ok volume → false ≡ is_protected volume → opened_writable size image ≡ Ok volume
-  unfolding opened_writable
+  pub unprotected : (volume : Volume) → opening size image ≡ Ok volume → false ≡ is_protected volume → writable_opening size image ≡ Ok volume
+  unfolding writable_opening
   unprotected volume e p = ap by_protection e ∙ ap (λ b. cond b (Err missing.WriteProtected) (Ok volume)) (sym p)
 
 by_tests : (a b c d e f : Bool) → (a && (b && (c && (not d && (e && f)))))
@@ -46,7 +46,7 @@ profile_is : (size : ℕ) (list : List Descriptor) → is_profile size list ≡ 
 unfolding is_profile unlike_profile unlike_maps
 profile_is size list = by_tests (has_block_size size list) (has_domain list) (has_revision list) (has_pointer list) (is_built list) (has_no_tables list)
 
-protected_is : (size blocks : ℕ) (v : model.Volume) → is_protected (volume_by size blocks v (logical v.list) (partition v.list)) ≡ is_protected_list v.list
+protected_is : (size blocks : ℕ) (v : model.KeptSequence) → is_protected (volume_by size blocks v (logical v.list) (partition v.list)) ≡ is_protected_list v.list
 unfolding is_protected volume_by is_protected_list is_guarded is_guarded_list
 protected_is size blocks v = refl
 
@@ -65,14 +65,14 @@ by_guard None true true volume e = sym (ap (λ b. is_ok (cond b (Err missing.Wri
 by_guard None true false volume e = sym (ap (λ b. is_ok (cond b (Err missing.WriteProtected) (Ok volume))) e)
 
 module _ (size blocks : ℕ) (disk : ℕ → List ℕ) (any : Bool) where
-  kept_is : (found : Option model.Volume) → is_opened_by size blocks disk found ≡ is_ok (by_volume size blocks disk any found)
+  kept_is : (found : Option model.KeptSequence) → is_opened_by size blocks disk found ≡ is_ok (by_volume size blocks disk any found)
   unfolding accepted refusal_of
   kept_is None = elim any as (λ b. false ≡ is_ok (by_volume size blocks disk b None)) [ true ↦ refl | false ↦ refl ]
   kept_is (Some v) =
       ap (λ b. b && is_lawful size blocks disk v) (profile_is size v.list)
       ∙ by_parts (unlike_profile size v.list) (is_lawful size blocks disk v) (volume_by size blocks v (logical v.list) (partition v.list))
 
-  guarded_is : (found : Option model.Volume)
+  guarded_is : (found : Option model.KeptSequence)
       → (is_opened_by size blocks disk found && not (is_protected_by found)) ≡ is_ok (by_protection (by_volume size blocks disk any found))
   unfolding accepted refusal_of
   guarded_is None = elim any as (λ b. false ≡ is_ok (by_protection (by_volume size blocks disk b None))) [ true ↦ refl | false ↦ refl ]
@@ -88,22 +88,22 @@ module _ (size : ℕ) (image : List ℕ) where
   any : Bool
   any = has_anchor size (blocks_in size image) (block_of size image) (places (blocks_in size image))
 
-  pub opened_is : is_opened size image ≡ is_ok (opened size image)
-  unfolding is_opened opened any
+  pub opened_is : is_opened size image ≡ is_ok (opening size image)
+  unfolding is_opened opening any
   opened_is =
-      ap (λ b. b && is_opened_by size (blocks_in size image) (block_of size image) (volume_of size image)) (fewer (blocks_in size image))
+      ap (λ b. b && is_opened_by size (blocks_in size image) (block_of size image) (kept_sequence_of size image)) (fewer (blocks_in size image))
       ∙ by_count (ltb 4294967295 (blocks_in size image)) where
-        by_count : (b : Bool) → (not b && is_opened_by size (blocks_in size image) (block_of size image) (volume_of size image))
-            ≡ is_ok (cond b (Err missing.TooLarge) (by_volume size (blocks_in size image) (block_of size image) any (volume_of size image)))
+        by_count : (b : Bool) → (not b && is_opened_by size (blocks_in size image) (block_of size image) (kept_sequence_of size image))
+            ≡ is_ok (cond b (Err missing.TooLarge) (by_volume size (blocks_in size image) (block_of size image) any (kept_sequence_of size image)))
         by_count true = refl
-        by_count false = kept_is size (blocks_in size image) (block_of size image) any (volume_of size image)
+        by_count false = kept_is size (blocks_in size image) (block_of size image) any (kept_sequence_of size image)
 
-  pub writable_is : (is_opened size image && not (is_protected_image size image)) ≡ is_ok (opened_writable size image)
-  unfolding is_opened is_protected_image opened_writable opened any
+  pub writable_is : (is_opened size image && not (is_protected_image size image)) ≡ is_ok (writable_opening size image)
+  unfolding is_opened is_protected_image writable_opening opening any
   writable_is =
-      ap (λ b. (b && is_opened_by size (blocks_in size image) (block_of size image) (volume_of size image)) && not (is_protected_by (volume_of size image))) (fewer (blocks_in size image))
+      ap (λ b. (b && is_opened_by size (blocks_in size image) (block_of size image) (kept_sequence_of size image)) && not (is_protected_by (kept_sequence_of size image))) (fewer (blocks_in size image))
       ∙ by_count (ltb 4294967295 (blocks_in size image)) where
-        by_count : (b : Bool) → ((not b && is_opened_by size (blocks_in size image) (block_of size image) (volume_of size image)) && not (is_protected_by (volume_of size image)))
-            ≡ is_ok (by_protection (cond b (Err missing.TooLarge) (by_volume size (blocks_in size image) (block_of size image) any (volume_of size image))))
+        by_count : (b : Bool) → ((not b && is_opened_by size (blocks_in size image) (block_of size image) (kept_sequence_of size image)) && not (is_protected_by (kept_sequence_of size image)))
+            ≡ is_ok (by_protection (cond b (Err missing.TooLarge) (by_volume size (blocks_in size image) (block_of size image) any (kept_sequence_of size image))))
         by_count true = refl
-        by_count false = guarded_is size (blocks_in size image) (block_of size image) any (volume_of size image)
+        by_count false = guarded_is size (blocks_in size image) (block_of size image) any (kept_sequence_of size image)

@@ -1,13 +1,14 @@
 pub mod Causes
-pub mod Says
+pub mod Views
 pub mod Seen
 pub mod Best
 pub mod Leads
 pub mod Led
 pub mod Opened
+pub mod Over
 pub mod Areas
 pub mod Spans
 pub mod Laid
 pub mod Writable
 pub mod Refusals
-pub mod Eligible
+pub mod Verdicts

@@ -1,19 +1,17 @@
 -- What `open_volume` answers.
-use Rattle.std.specs.Prelude.{◌≡◌, ◌⊎◌, ℕ, Bool, ◌≤◌, ◌<◌, ◌+◌, ◌-◌, ◌^◌, ◌%◌, ◌==◌, ◌&&◌, not, nat_lt, if◌then◌else◌, List, [], length, Option, Some, None, option_map, unwrap_or, true, Result, Ok, Err, slice_index}
+use Rattle.std.specs.Prelude.{◌≡◌, ◌⊎◌, ℕ, Bool, ◌≤◌, ◌<◌, ◌+◌, ◌-◌, ◌^◌, ◌%◌, ◌==◌, not, nat_lt, if◌then◌else◌, List, [], length, Option, Some, None, option_map, unwrap_or, true, Result, Ok, Err, slice_index}
 use Rattle.udf_model.specs.Image.{block_of, blocks_in}
 use Rattle.udf_volume_model.specs.Prevailing.{number_in, prevailing_index}
-use Rattle.udf_volume_model.specs.Anchor as model
-use Rattle.udf_volume_model.specs.Anchor.{places, blocks_of, is_extent}
+use Rattle.udf_volume_model.specs.Anchor.{places, is_extent}
 use Rattle.udf_volume_model.specs.Kept as model_kept
-use Rattle.udf_volume_model.specs.Kept.{kept, volume_of, has_anchor}
+use Rattle.udf_volume_model.specs.Kept.{kept, kept_sequence_of, has_anchor}
 use Rattle.udf_volume_model.specs.Sequence.{Descriptor}
-use Rattle.udf_volume_model.specs.Profile.{has_block_size, has_domain, has_revision, has_pointer, is_absent, has_no_tables}
+use Rattle.udf_volume_model.specs.Profile.{has_block_size, has_domain, has_revision, has_pointer, has_no_tables}
 use Rattle.udf_volume_model.specs.Layout.{is_lawful}
 use Rattle.udf_volume_model.specs.Stated.{map_number, logical, partition, is_built, volume_information}
 use Rattle.udf_field.specs.FieldView.{short_at, long_at, span_at}
-use Rattle.udf_field.specs.declared.address.Span.{Span}
 use Rattle.udf_field.specs.declared.address.Short.{Short}
-use Rattle.udf_volume.specs.Seen.{extent_seen}
+use Rattle.udf_volume.specs.Seen.{extent_seen, span_of}
 use Rattle.udf_volume.specs.Spans.{kept_span, limit_stated}
 use Rattle.udf_volume.specs.declared.volume.Which.{Which}
 use Rattle.udf_volume.specs.declared.volume.Which.TheVariants as which
@@ -26,15 +24,12 @@ use Rattle.udf_volume.specs.declared.missing.ProfileItem.TheVariants as item
 use Rattle.udf_volume.specs.declared.missing.LayerStop.{LayerStop}
 use Rattle.udf_volume.specs.declared.missing.LayerStop.TheVariants as stops
 
-abbrev pub span_of : model.Extent → Span
-span_of extent = record { length = extent.bytes; start = extent.start }
-
 abbrev pub which_of : model_kept.Which → Which
 which_of model_kept.Main = which.Main
 which_of model_kept.Reserve = which.Reserve
 
 -- the sector of the descriptor that prevails of a kind and subject
-unfoldable pub sector_in : model_kept.Volume → ℕ → List ℕ → Option ℕ
+unfoldable pub sector_in : model_kept.KeptSequence → ℕ → List ℕ → Option ℕ
 sector_in volume kind subject = option_map (λ index. (kept volume).start + index) (prevailing_index kind subject volume.list)
 
 -- an extent of length 0 is none (4/14.3.2)
@@ -46,7 +41,7 @@ unfoldable pub is_guarded : ℕ → Bool
 is_guarded flags = not (flags % 4 == 0)
 
 -- the volume of a kept sequence, whose logical volume descriptor and partition descriptor have these bytes
-unfoldable pub volume_by : ℕ → ℕ → model_kept.Volume → List ℕ → List ℕ → Volume
+unfoldable pub volume_by : ℕ → ℕ → model_kept.KeptSequence → List ℕ → List ℕ → Volume
 volume_by size blocks volume logical partition = record {
   size = size;
   blocks = blocks;
@@ -71,7 +66,7 @@ volume_by size blocks volume logical partition = record {
 }
 
 -- what the descriptors of a kept sequence state, where its maps are built
-unfoldable pub stated_in : ℕ → ℕ → model_kept.Volume → Option Volume
+unfoldable pub stated_in : ℕ → ℕ → model_kept.KeptSequence → Option Volume
 stated_in size blocks volume =
     if is_built volume.list then Some (volume_by size blocks volume (logical volume.list) (partition volume.list)) else None
 
@@ -81,10 +76,6 @@ unlike_maps list =
     if not (is_built list) then Some item.Unbuilt
     else if not (has_no_tables list) then Some item.SpaceTables
     else None
-
--- the header of a partition descriptor with these bytes names no tables and no freed space
-unfoldable pub are_absent : List ℕ → Bool
-are_absent body = is_absent body 56 && (is_absent body 72 && (is_absent body 80 && is_absent body 88))
 
 -- the first test of the profile that the descriptors of a kept sequence fail
 unfoldable pub unlike_profile : ℕ → List Descriptor → Option ProfileItem
@@ -100,7 +91,7 @@ by_profile (Some item) lawful = Some (missing.Profile item)
 by_profile None lawful = if lawful then None else Some missing.Layout
 
 -- the first refusal of a kept sequence
-unfoldable pub refusal_of : ℕ → ℕ → (ℕ → List ℕ) → model_kept.Volume → Option Missing
+unfoldable pub refusal_of : ℕ → ℕ → (ℕ → List ℕ) → model_kept.KeptSequence → Option Missing
 refusal_of size blocks disk volume = by_profile (unlike_profile size volume.list) (is_lawful size blocks disk volume)
 
 abbrev pub by_refusal : Option Missing → Volume → Result Volume Missing
@@ -108,21 +99,21 @@ by_refusal (Some missing) volume = Err missing
 by_refusal None volume = Ok volume
 
 -- the volume of a kept sequence, or the first refusal of it
-unfoldable pub accepted : ℕ → ℕ → (ℕ → List ℕ) → model_kept.Volume → Result Volume Missing
+unfoldable pub accepted : ℕ → ℕ → (ℕ → List ℕ) → model_kept.KeptSequence → Result Volume Missing
 accepted size blocks disk volume =
     by_refusal (refusal_of size blocks disk volume) (volume_by size blocks volume (logical volume.list) (partition volume.list))
 
-abbrev pub by_volume : ℕ → ℕ → (ℕ → List ℕ) → Bool → Option model_kept.Volume → Result Volume Missing
+abbrev pub by_volume : ℕ → ℕ → (ℕ → List ℕ) → Bool → Option model_kept.KeptSequence → Result Volume Missing
 by_volume size blocks disk any None = if any then Err missing.Sequence else Err missing.Anchor
 by_volume size blocks disk any (Some volume) = accepted size blocks disk volume
 
 -- the first refusal that applies, or the volume
-unfoldable pub opened : ℕ → List ℕ → Result Volume Missing
-opened size image =
+unfoldable pub opening : ℕ → List ℕ → Result Volume Missing
+opening size image =
     if nat_lt 4294967295 (blocks_in size image) then Err missing.TooLarge
     else by_volume size (blocks_in size image) (block_of size image)
     (has_anchor size (blocks_in size image) (block_of size image) (places (blocks_in size image)))
-    (volume_of size image)
+    (kept_sequence_of size image)
 
 -- the answer is that, unless a fault or want of memory came
 abbrev pub Answers : Result Volume Missing → Result Volume LayerStop → Type 0
@@ -143,3 +134,4 @@ pub record IsBounded (size blocks : ℕ) (volume : Volume) : Type 0 where
   pub some : 1 ≤ volume.count
   pub short : volume.count < limit_stated volume
   pub descriptors_inside : (kept_span volume).start + volume.count ≤ blocks
+  pub logical_inside : volume.lvd < blocks

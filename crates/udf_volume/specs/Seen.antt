@@ -9,6 +9,9 @@ use Rattle.udf_volume.specs.declared.volume.Which.TheVariants as which
 abbrev pub extent_seen : Span → model.Extent
 extent_seen span = record { bytes = span.length; start = span.start }
 
+abbrev pub span_of : model.Extent → Span
+span_of extent = record { length = extent.bytes; start = extent.start }
+
 abbrev pub anchor_seen : Anchor → model.Anchor
 anchor_seen anchor = record { main = extent_seen anchor.main; reserve = extent_seen anchor.reserve }
 

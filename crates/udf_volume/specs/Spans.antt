@@ -26,5 +26,5 @@ abbrev pub limit_stated : Volume → ℕ
 limit_stated volume = min (blocks_for volume.size volume.main.length) (blocks_for volume.size volume.reserve.length)
 
 -- what the blocks of an extent of an image say
-abbrev pub said_in : ℕ → List ℕ → Span → List View
-said_in size image extent = views (block_of size image) extent.start (blocks_for size extent.length)
+abbrev pub views_in : ℕ → List ℕ → Span → List View
+views_in size image extent = views (block_of size image) extent.start (blocks_for size extent.length)

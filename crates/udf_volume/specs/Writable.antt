@@ -4,7 +4,7 @@ use Rattle.udf_volume_model.specs.Profile.{is_rewritable}
 use Rattle.udf_volume.specs.declared.volume.Volume.{Volume}
 use Rattle.udf_volume.specs.declared.missing.Missing.{Missing}
 use Rattle.udf_volume.specs.declared.missing.Missing.TheVariants.{WriteProtected}
-use Rattle.udf_volume.specs.Opened.{opened}
+use Rattle.udf_volume.specs.Opened.{opening}
 
 -- a protection bit stands, or the access type forbids rewriting
 unfoldable pub is_protected : Volume → Bool
@@ -15,5 +15,5 @@ by_protection (Ok volume) = if is_protected volume then Err WriteProtected else 
 by_protection (Err missing) = Err missing
 
 -- the first refusal of a repair that applies, or the volume
-unfoldable pub opened_writable : ℕ → List ℕ → Result Volume Missing
-opened_writable size image = by_protection (opened size image)
+unfoldable pub writable_opening : ℕ → List ℕ → Result Volume Missing
+writable_opening size image = by_protection (opening size image)

@@ -2,8 +2,10 @@
 ghost use Rattle.std.specs.Prelude.{◌≡◌, ◌≤◌, ◌<◌, length, IfOk, option_map, true, IfSome};
 ghost use Rattle.std.specs.List.{AllByRecursion};
 ghost use Rattle.udf_volume_model.specs.Anchor.{blocks_for, places, is_extent, names_extents, anchor_in};
-ghost use Rattle.udf_volume.specs.Seen.{extent_seen, anchor_seen};
+ghost use Rattle.udf_volume_model.specs.Kept.{extent_of};
+ghost use Rattle.udf_volume.specs.Seen.{extent_seen, anchor_seen, which_seen, span_of};
 
+use crate::Which;
 use std::alloc::{AllocError, Global};
 use udf_field::{Fields, Span, id_at};
 
@@ -18,6 +20,18 @@ const LEAST_EXTENT: u32 = 16;
 pub(crate) struct Anchor {
     pub main: Span,
     pub reserve: Span,
+}
+
+impl Anchor {
+    /// The extent of one of the two sequences.
+    pub fn extent(self, which: Which) -> Span
+        ensures { result ≡ span_of (extent_of (which_seen which) (anchor_seen self)) }
+    {
+        match which {
+            Which::Main => self.main,
+            Which::Reserve => self.reserve,
+        }
+    }
 }
 
 /// The places of an anchor in an image of so many blocks, in the order in which they are tried, each once.

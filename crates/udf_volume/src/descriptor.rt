@@ -20,6 +20,10 @@ pub(crate) const PARTITION: u16 = 5;
 
 pub(crate) const LOGICAL_VOLUME: u16 = 6;
 
+pub(crate) const UNALLOCATED_SPACE: u16 = 7;
+
+pub const TERMINATING: u16 = 8;
+
 /// A descriptor of a sequence: the identifier of its tag, and its bytes behind the tag. Offsets are those in the whole
 /// descriptor, of which the first 512 bytes hold its fields.
 #[derive(Debug, Drop)]

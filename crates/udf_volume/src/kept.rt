@@ -1,22 +1,19 @@
 //! The kept anchor and the kept sequence: the first place with a whole anchor that leads to a whole sequence.
-ghost use Rattle.std.specs.Prelude.{◌≡◌, ◌+◌, ◌*◌, ◌≤◌, ◌<◌, ◌^◌, ℕ, length, IfOk, IfSome, option_map, true};
+ghost use Rattle.std.specs.Prelude.{◌≡◌, ◌≤◌, ◌<◌, length, IfOk, IfSome, option_map, true};
 ghost use Rattle.std.specs.List.{AllByRecursion};
-ghost use Rattle.udf_model.specs.Image.{block_of};
-ghost use Rattle.udf_outside.specs.Files.{IsAttached};
-ghost use Rattle.udf_outside.specs.Stops.{bytes_of};
 ghost use Rattle.udf_outside.specs.Reads.{OnlyReads};
-ghost use Rattle.udf_outside.specs.declared.bench.Role.TheVariants.{Image};
-ghost use Rattle.udf_volume_model.specs.Anchor.{is_extent, names_extents};
-ghost use Rattle.udf_volume_model.specs.Kept.{has_id, is_complete, whole_by, sequence_at, volume_at, volume_in, has_anchor};
-ghost use Rattle.udf_volume.specs.Seen.{extent_seen, anchor_seen};
-ghost use Rattle.udf_volume.specs.Led.{listed_in, led_seen, IsLed, Finds, FindsLawful, at_least_unled_of};
+ghost use Rattle.udf_outside.specs.Sectors.{disk_of};
+ghost use Rattle.udf_volume_model.specs.Anchor.{names_extents};
+ghost use Rattle.udf_volume_model.specs.Kept.{extent_of, limit_of, has_id, is_complete, whole_by, sequence_at, kept_sequence_at, kept_sequence_in, has_anchor};
+ghost use Rattle.udf_volume.specs.Seen.{anchor_seen, which_seen};
+ghost use Rattle.udf_volume.specs.Led.{listed_in, kept_as, led_seen, IsLed, Finds, FindsLawful, at_least_unled_of};
+ghost use Rattle.udf_volume.specs.Over.{HasBlocks};
 
 use crate::anchor::{Anchor, anchor_of, blocks_of};
 use crate::descriptor::{LOGICAL_VOLUME, PARTITION, PRIMARY};
 use crate::leading::{Leading, leading_of};
 use crate::{Descriptor, DescriptorList, Which, WorkStop, read_descriptors};
 use std::alloc::Global;
-use udf_field::Span;
 use udf_outside::{Bench, read_block};
 
 /// The kept anchor, the descriptors of the sequence to which it leads, and which of them lead.
@@ -31,7 +28,7 @@ pub(crate) struct Led {
 
 /// What the places of anchors hold.
 #[derive(Debug, Drop)]
-pub(crate) enum Found {
+pub(crate) enum AnchorSearch {
     /// No whole anchor.
     Nothing,
     /// Whole anchors, none of which leads to a whole sequence.
@@ -39,14 +36,14 @@ pub(crate) enum Found {
     Kept(Led),
 }
 
-impl Found {
-    fn at_least_unled(self) -> Found
+impl AnchorSearch {
+    fn at_least_unled(self) -> AnchorSearch
         ensures { result ≡ at_least_unled_of self }
     {
         match self {
-            Found::Nothing => Found::Unled,
-            Found::Unled => Found::Unled,
-            Found::Kept(led) => Found::Kept(led),
+            AnchorSearch::Nothing => AnchorSearch::Unled,
+            AnchorSearch::Unled => AnchorSearch::Unled,
+            AnchorSearch::Kept(led) => AnchorSearch::Kept(led),
         }
     }
 }
@@ -83,92 +80,103 @@ fn whole_list(list: DescriptorList, limit: u32) -> Option<Vec<Descriptor>>
     }
 }
 
-// The descriptors of an extent's sequence, where it is whole.
-#[tactic(auto, using(crate::proofs::Extents::fits, crate::proofs::Extents::in_numbers, crate::proofs::Listing::sequence_is))]
-fn whole_sequence<B: Bench>(
-    alloc: Global,
-    bench: &mut B,
-    size: u32,
-    blocks: u32,
-    span: Span,
-    limit: u32,
-    block: &mut [u8],
-) -> Result<Option<Vec<Descriptor>>, WorkStop>
-    requires attached { IsAttached Image (B.files bench.old) }
-    requires within { blocks * size ≤ (B.files bench.old).image.size }
-    requires room { length block.old ≡ size }
-    requires large { 512 ≤ size }
-    requires extent { is_extent size blocks (extent_seen span) ≡ true }
-    ensures sequence { B.tells → IfOk result (λ found. option_map (λ v. v.items) found
-        ≡ sequence_at size (block_of size (bytes_of Image (B.held bench.old))) limit (extent_seen span)) }
-    ensures complete { IfOk result (λ found. IfSome found (λ v. is_complete limit v.items ≡ true)) }
-    ensures reads { OnlyReads B.files B.held B.faults bench.old bench.new WorkStop.Fault result }
-{
-    let count = blocks_of(size, span.length);
-    let list = read_descriptors(alloc, bench, size, span.start, count, block)?;
-    Ok(whole_list(list, limit))
-}
-
-// The sequence to which an anchor leads, the main one first.
-#[tactic(auto, using(crate::proofs::Extents::both, crate::proofs::Listing::main_led, crate::proofs::Listing::reserve_led, crate::proofs::Listing::not_led))]
-fn led_by<B: Bench>(
-    alloc: Global,
-    bench: &mut B,
+/// A whole anchor at its place, in an image of so many blocks of a size.
+#[derive(Clone, Copy, Debug)]
+struct Candidate {
     size: u32,
     blocks: u32,
     place: u32,
     anchor: Anchor,
+}
+
+impl Candidate {
+    // The blocks of the smaller of both extents: a whole sequence has fewer descriptors.
+    #[tactic(auto, unfolding(udf_volume_model::specs::Kept::limit_of))]
+    fn limit(self) -> u32
+        requires { 512 ≤ self.size }
+        ensures { result ≡ limit_of self.size (anchor_seen self.anchor) }
+    {
+        let main = blocks_of(self.size, self.anchor.main.length);
+        let reserve = blocks_of(self.size, self.anchor.reserve.length);
+        main.min(reserve)
+    }
+}
+
+// The descriptors of one of the sequences that an anchor names, where it is whole.
+fn whole_sequence<B: Bench>(
+    alloc: Global,
+    bench: &mut B,
+    at: Candidate,
+    which: Which,
     block: &mut [u8],
-) -> Result<Option<Led>, WorkStop>
-    requires attached { IsAttached Image (B.files bench.old) }
-    requires within { blocks * size ≤ (B.files bench.old).image.size }
-    requires room { length block.old ≡ size }
-    requires large { 512 ≤ size }
-    requires place { place < blocks }
-    requires extents { names_extents size blocks (anchor_seen anchor) ≡ true }
-    ensures led { B.tells → IfOk result (λ led. option_map led_seen led
-        ≡ volume_at size (block_of size (bytes_of Image (B.held bench.old))) place (Some (anchor_seen anchor))) }
-    ensures lawful { IfOk result (λ led. IfSome led (IsLed size blocks)) }
+) -> Result<Option<Vec<Descriptor>>, WorkStop>
+    requires image { HasBlocks at.size at.blocks (B.files bench.old) }
+    requires room { length block.old ≡ at.size }
+    requires extents { names_extents at.size at.blocks (anchor_seen at.anchor) ≡ true }
+    ensures sequence { B.tells → IfOk result (λ found. option_map (λ v. v.items) found
+        ≡ sequence_at at.size (disk_of at.size (B.held bench.old)) (limit_of at.size (anchor_seen at.anchor))
+        (extent_of (which_seen which) (anchor_seen at.anchor))) }
+    ensures complete { IfOk result (λ found. IfSome found (λ v. is_complete (limit_of at.size (anchor_seen at.anchor)) v.items ≡ true)) }
     ensures reads { OnlyReads B.files B.held B.faults bench.old bench.new WorkStop.Fault result }
 {
-    let limit = blocks_of(size, anchor.main.length).min(blocks_of(size, anchor.reserve.length));
-    if let Some(descriptors) = whole_sequence(
-        alloc,
-        bench,
-        size,
-        blocks,
-        anchor.main,
-        limit,
-        block,
-    )? {
-        let leading = leading_of(&descriptors);
-        return Ok(Some(Led {
-            place,
-            anchor,
-            which: Which::Main,
-            descriptors,
-            leading,
-        }));
+    let extent = at.anchor.extent(which);
+    let count = blocks_of(at.size, extent.length);
+    let list = read_descriptors(alloc, bench, at.size, extent.start, count, block)?;
+    Ok(whole_list(list, at.limit()))
+}
+
+// One of the sequences that an anchor names, with its anchor.
+fn led_from<B: Bench>(
+    alloc: Global,
+    bench: &mut B,
+    at: Candidate,
+    which: Which,
+    block: &mut [u8],
+) -> Result<Option<Led>, WorkStop>
+    requires image { HasBlocks at.size at.blocks (B.files bench.old) }
+    requires room { length block.old ≡ at.size }
+    requires place { at.place < at.blocks }
+    requires extents { names_extents at.size at.blocks (anchor_seen at.anchor) ≡ true }
+    ensures led { B.tells → IfOk result (λ led. option_map led_seen led
+        ≡ option_map (kept_as at.place (anchor_seen at.anchor) (which_seen which))
+        (sequence_at at.size (disk_of at.size (B.held bench.old)) (limit_of at.size (anchor_seen at.anchor))
+        (extent_of (which_seen which) (anchor_seen at.anchor)))) }
+    ensures lawful { IfOk result (λ led. IfSome led (IsLed at.size at.blocks)) }
+    ensures reads { OnlyReads B.files B.held B.faults bench.old bench.new WorkStop.Fault result }
+{
+    let Some(descriptors) = whole_sequence(alloc, bench, at, which, block)? else {
+        return Ok(None);
+    };
+    let leading = leading_of(&descriptors);
+    Ok(Some(Led {
+        place: at.place,
+        anchor: at.anchor,
+        which,
+        descriptors,
+        leading,
+    }))
+}
+
+// The sequence to which an anchor leads, the main one first.
+fn led_by<B: Bench>(
+    alloc: Global,
+    bench: &mut B,
+    at: Candidate,
+    block: &mut [u8],
+) -> Result<Option<Led>, WorkStop>
+    requires image { HasBlocks at.size at.blocks (B.files bench.old) }
+    requires room { length block.old ≡ at.size }
+    requires place { at.place < at.blocks }
+    requires extents { names_extents at.size at.blocks (anchor_seen at.anchor) ≡ true }
+    ensures led { B.tells → IfOk result (λ led. option_map led_seen led
+        ≡ kept_sequence_at at.size (disk_of at.size (B.held bench.old)) at.place (Some (anchor_seen at.anchor))) }
+    ensures lawful { IfOk result (λ led. IfSome led (IsLed at.size at.blocks)) }
+    ensures reads { OnlyReads B.files B.held B.faults bench.old bench.new WorkStop.Fault result }
+{
+    match led_from(alloc, bench, at, Which::Main, block)? {
+        Some(led) => Ok(Some(led)),
+        None => led_from(alloc, bench, at, Which::Reserve, block),
     }
-    if let Some(descriptors) = whole_sequence(
-        alloc,
-        bench,
-        size,
-        blocks,
-        anchor.reserve,
-        limit,
-        block,
-    )? {
-        let leading = leading_of(&descriptors);
-        return Ok(Some(Led {
-            place,
-            anchor,
-            which: Which::Reserve,
-            descriptors,
-            leading,
-        }));
-    }
-    Ok(None)
 }
 
 /// What these places of an image of so many blocks hold. `block` is lent and has the block size.
@@ -180,28 +188,32 @@ pub(crate) fn search<B: Bench>(
     blocks: u32,
     places: &[u32],
     block: &mut [u8],
-) -> Result<Found, WorkStop>
-    requires attached { IsAttached Image (B.files bench.old) }
-    requires within { blocks * size ≤ (B.files bench.old).image.size }
+) -> Result<AnchorSearch, WorkStop>
+    requires image { HasBlocks size blocks (B.files bench.old) }
     requires room { length block.old ≡ size }
-    requires large { 512 ≤ size }
     requires inside { AllByRecursion (λ at. at < blocks) places.now }
     ensures found { B.tells → IfOk result (Finds
-        (volume_in size blocks (block_of size (bytes_of Image (B.held bench.old))) places.now)
-        (has_anchor size blocks (block_of size (bytes_of Image (B.held bench.old))) places.now)) }
+        (kept_sequence_in size blocks (disk_of size (B.held bench.old)) places.now)
+        (has_anchor size blocks (disk_of size (B.held bench.old)) places.now)) }
     ensures lawful { IfOk result (FindsLawful size blocks) }
     ensures reads { OnlyReads B.files B.held B.faults bench.old bench.new WorkStop.Fault result }
 {
     let Some((first, rest)) = places.split_first() else {
-        return Ok(Found::Nothing);
+        return Ok(AnchorSearch::Nothing);
     };
     let place = *first;
     read_block(bench, size, place, block)?;
     let Some(anchor) = anchor_of(block, place, size, blocks) else {
         return search(alloc, bench, size, blocks, rest, block);
     };
-    if let Some(led) = led_by(alloc, bench, size, blocks, place, anchor, block)? {
-        return Ok(Found::Kept(led));
+    let at = Candidate {
+        size,
+        blocks,
+        place,
+        anchor,
+    };
+    if let Some(led) = led_by(alloc, bench, at, block)? {
+        return Ok(AnchorSearch::Kept(led));
     }
     Ok(search(alloc, bench, size, blocks, rest, block)?.at_least_unled())
 }

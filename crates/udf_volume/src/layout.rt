@@ -1,14 +1,12 @@
 //! The lawful layout of a volume's areas.
-ghost use Rattle.std.specs.Prelude.{◌≡◌, ◌*◌, ◌≤◌, ◌<◌, ◌^◌, length, map, IfOk, IsErrOf, true};
+ghost use Rattle.std.specs.Prelude.{◌≡◌, ◌≤◌, ◌<◌, length, map, IfOk, true};
 ghost use Rattle.std.specs.List.{AllByRecursion, list_all};
-ghost use Rattle.udf_model.specs.Image.{block_of};
-ghost use Rattle.udf_outside.specs.Files.{IsAttached};
-ghost use Rattle.udf_outside.specs.Stops.{bytes_of};
 ghost use Rattle.udf_outside.specs.Reads.{OnlyReads, failed};
-ghost use Rattle.udf_outside.specs.declared.bench.Role.TheVariants.{Image};
+ghost use Rattle.udf_outside.specs.Sectors.{disk_of};
 ghost use Rattle.udf_volume_model.specs.Layout.{is_apart as apart, are_apart as all_apart, is_inside as inside, is_bitmap as bitmap_holds, earlier, is_passed};
 ghost use Rattle.udf_volume.specs.Areas.{area_seen};
-ghost use Rattle.udf_volume.specs.Laid.{is_bitmap_at, areas_laid, places_laid, is_laid as laid, IsLaidOut};
+ghost use Rattle.udf_volume.specs.Laid.{is_bitmap_at, areas_laid, is_laid as laid, IsLaidOut};
+ghost use Rattle.udf_volume.specs.Over.{IsOver};
 
 use crate::anchor::{anchor_of, blocks_of, places_of};
 use crate::{Area, Volume, WorkStop, areas_of, lies_outside};
@@ -26,10 +24,10 @@ const BITMAP_HEADER: u64 = 24;
 fn is_apart(a: Area, b: Area) -> bool
     ensures { result ≡ apart (area_seen a) (area_seen b) }
 {
-    a.blocks == 0
-        || b.blocks == 0
-        || a.start as u64 + a.blocks as u64 <= b.start as u64
-        || b.start as u64 + b.blocks as u64 <= a.start as u64
+    a.count == 0
+        || b.count == 0
+        || a.start as u64 + a.count as u64 <= b.start as u64
+        || b.start as u64 + b.count as u64 <= a.start as u64
 }
 
 fn is_apart_from_all(area: Area, others: &[Area]) -> bool
@@ -56,7 +54,7 @@ fn are_apart(areas: &[Area]) -> bool
 fn is_inside(area: Area, blocks: u32) -> bool
     ensures { result ≡ inside blocks (area_seen area) }
 {
-    area.start as u64 + area.blocks as u64 <= blocks as u64
+    area.start as u64 + area.count as u64 <= blocks as u64
 }
 
 fn are_inside(areas: &[Area], blocks: u32) -> bool
@@ -111,13 +109,11 @@ fn are_passed<B: Bench>(
     places: &[u32],
     block: &mut [u8],
 ) -> Result<bool, Failed>
-    requires attached { IsAttached Image (B.files bench.old) }
-    requires within { volume.now.blocks * volume.now.size ≤ (B.files bench.old).image.size }
+    requires over { IsOver volume.now (B.files bench.old) }
     requires room { length block.old ≡ volume.now.size }
-    requires large { 512 ≤ volume.now.size }
     requires inside { AllByRecursion (λ at. at < volume.now.blocks) places.now }
     ensures passed { B.tells → IfOk result (λ passed. passed ≡ list_all
-        (is_passed volume.now.size volume.now.blocks (block_of volume.now.size (bytes_of Image (B.held bench.old))) (map area_seen areas.now))
+        (is_passed volume.now.size volume.now.blocks (disk_of volume.now.size (B.held bench.old)) (map area_seen areas.now))
         (earlier volume.now.anchor places.now)) }
     ensures reads { OnlyReads B.files B.held B.faults bench.old bench.new failed result }
 {
@@ -148,11 +144,9 @@ pub(crate) fn is_lawful<B: Bench>(
     volume: &Volume,
     block: &mut [u8],
 ) -> Result<bool, WorkStop>
-    requires attached { IsAttached Image (B.files bench.old) }
-    requires within { volume.now.blocks * volume.now.size ≤ (B.files bench.old).image.size }
+    requires over { IsOver volume.now (B.files bench.old) }
     requires room { length block.old ≡ volume.now.size }
-    requires large { 512 ≤ volume.now.size }
-    ensures lawful { B.tells → IfOk result (λ lawful. lawful ≡ laid volume.now (block_of volume.now.size (bytes_of Image (B.held bench.old)))) }
+    ensures lawful { B.tells → IfOk result (λ lawful. lawful ≡ laid volume.now (disk_of volume.now.size (B.held bench.old))) }
     ensures areas { IfOk result (λ lawful. lawful ≡ true → IsLaidOut volume.now) }
     ensures reads { OnlyReads B.files B.held B.faults bench.old bench.new WorkStop.Fault result }
 {

@@ -4,10 +4,10 @@ ghost use Rattle.udf_volume_model.specs.Kept.{has_id};
 ghost use Rattle.udf_volume_model.specs.Prevailing.{prevailing_index as index_of};
 ghost use Rattle.udf_volume.specs.Leads.{IsLeading};
 
-use crate::descriptor::{LOGICAL_VOLUME, PARTITION, PRIMARY};
-use crate::highest::best_of;
+use crate::Descriptor;
+use crate::descriptor::{IMPLEMENTATION_USE, LOGICAL_VOLUME, PARTITION, PRIMARY};
+use crate::prevailing::{best_of, prevailing_index};
 use crate::profile::map_number;
-use crate::{Descriptor, prevailing_index};
 
 /// The descriptors that prevail in a list and by which a volume is stated, by their indexes.
 #[derive(Clone, Copy, Debug)]
@@ -16,7 +16,12 @@ pub(crate) struct Leading {
     pub logical: usize,
     /// That with the partition number of the first map, where there is one.
     pub partition: Option<usize>,
+    /// The implementation use descriptor with the volume's names, where there is one.
+    pub information: Option<usize>,
 }
+
+/// The identifier of the implementation use descriptor with the volume's names (UDF 2.2.7).
+const LV_INFO: [u8; 23] = *b"*UDF LV Info\0\0\0\0\0\0\0\0\0\0\0";
 
 // The index of the descriptor that prevails of a kind that the list has and that has one subject.
 #[tactic(auto, using(crate::proofs::Leads::is_there, crate::proofs::Prevail::is_found))]
@@ -38,9 +43,11 @@ pub(crate) fn leading_of(list: &[Descriptor]) -> Leading
     let primary = index_of_only(list, PRIMARY);
     let logical = index_of_only(list, LOGICAL_VOLUME);
     let partition = prevailing_index(list, PARTITION, map_number(&list[logical]));
+    let information = prevailing_index(list, IMPLEMENTATION_USE, &LV_INFO);
     Leading {
         primary,
         logical,
         partition,
+        information,
     }
 }

@@ -1,35 +1,38 @@
 //! The volume of an image: its anchors, the kept descriptor sequence, and what the prevailing descriptors state.
 //! Towards the layer above: `open_volume` answers the first refusal that applies, or a `Volume` whose every field is what
 //! the descriptors state; `open_writable` refuses a protected volume too; `read_descriptors` gives the list of
-//! an extent. It stands on fields and tags, on the bench, and on the definitions of volumes.
+//! an extent; `anchor_verdict` and `sequence_verdict` judge a volume by the rules, for the check and for the planner. It stands
+//! on fields and tags, on the bench, and on the definitions of volumes.
 #![tactic(auto)]
 
+mod agreement;
 mod anchor;
 mod area;
 mod descriptor;
-mod highest;
+mod good_anchors;
 mod kept;
 mod layout;
 mod leading;
 mod matter;
 mod missing;
+mod offset;
 mod open;
+mod prevailing;
 mod profile;
 mod ranked;
-mod rules;
 mod sequence;
 mod size;
 mod volume;
 mod writable;
 
+pub use agreement::{SequenceVerdict, sequence_verdict};
 pub use anchor::places_of;
-pub use area::{Area, areas_of, eligible_places, lies_outside};
-pub use descriptor::Descriptor;
-pub use highest::{prevailing, prevailing_index};
+pub use area::{Area, areas_of, lies_outside};
+pub use descriptor::{Descriptor, TERMINATING};
+pub use good_anchors::{AnchorVerdict, anchor_verdict};
 pub use missing::{LayerStop, Missing, ProfileItem, WorkStop};
 pub use open::open_volume;
-pub use rules::{bad_places, is_good, sequences_agree};
-pub use sequence::{DescriptorList, read_descriptors, read_sequence};
+pub use sequence::{DescriptorList, read_descriptors};
 pub use size::{block_size, found_size};
 pub use volume::{MetaMap, Shape, SparingMap, Upper, Volume, Which};
 pub use writable::{open_writable, opened_law};

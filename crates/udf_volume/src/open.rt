@@ -1,58 +1,38 @@
 //! A volume from an image: the first refusal that applies, or what the prevailing descriptors state.
-ghost use Rattle.std.specs.Prelude.{◌≡◌, ◌+◌, ◌*◌, ◌/◌, ◌≤◌, ◌<◌, ◌^◌, ℕ, length as length_of, IfOk, IfErr, IfSome, if◌then◌else◌, Some, None, slice_index, slice_get, take, drop};
-ghost use Rattle.udf_model.specs.Image.{block_of};
+ghost use Rattle.std.specs.Prelude.{◌≡◌, ◌+◌, ◌/◌, ◌≤◌, ◌<◌, ◌^◌, length as length_of, IfOk, IfErr, IfSome, Some, None, slice_get};
 ghost use Rattle.udf_outside.specs.Files.{IsAttached};
 ghost use Rattle.udf_outside.specs.Stops.{bytes_of};
 ghost use Rattle.udf_outside.specs.Reads.{OnlyReads};
+ghost use Rattle.udf_outside.specs.Sectors.{disk_of};
 ghost use Rattle.udf_outside.specs.declared.bench.Role.TheVariants.{Image};
 ghost use Rattle.udf_volume_model.specs.Kept.{kept};
 ghost use Rattle.udf_volume_model.specs.Sequence as model;
 ghost use Rattle.udf_volume_model.specs.Prevailing.{prevailing_index as index_of};
-ghost use Rattle.udf_volume_model.specs.Stated.{is_built, map_number as number_of_map};
+ghost use Rattle.udf_volume_model.specs.Stated.{map_number as number_of_map, volume_information};
 ghost use Rattle.udf_volume.specs.Laid.{IsLaidOut};
 ghost use Rattle.udf_volume.specs.Leads.{IsLeading};
 ghost use Rattle.udf_volume.specs.Led.{IsLed, led_seen};
 ghost use Rattle.udf_volume.specs.Refusals.{RefusesVolume};
-ghost use Rattle.udf_volume.specs.Opened.{volume_by, stated_in, sector_in, bitmap_in, is_guarded, accepted, opened, Answers, IsBounded};
+ghost use Rattle.udf_volume.specs.Opened.{volume_by, stated_in, sector_in, bitmap_in, is_guarded as is_guarded_by, accepted, opening, Answers, IsBounded};
+ghost use Rattle.udf_volume.specs.Over.{HasBlocks};
 
 use crate::anchor::places_of;
-use crate::descriptor::{IMPLEMENTATION_USE, TAG};
-use crate::kept::{Found, Led, search};
+use crate::kept::{AnchorSearch, Led, search};
 use crate::layout::is_lawful;
-use crate::profile::{has_one_map, unlike_profile};
-use crate::{
-    Descriptor, LayerStop, Missing, ProfileItem, Shape, Upper, Volume, Which, prevailing_index,
+use crate::offset::{
+    ACCESS, FILE_SET, INTEGRITY, LENGTH, PROTECTION, REVISION, SPACE_BITMAP, START,
 };
+use crate::profile::{has_one_map, unlike_profile};
+use crate::{Descriptor, LayerStop, Missing, ProfileItem, Shape, Upper, Volume};
 use std::alloc::Global;
-use udf_field::{Fields, Short, Span};
+use udf_field::{Fields, Short};
 use udf_outside::Bench;
 
 /// The most blocks of an image.
 const MOST_BLOCKS: u64 = 4_294_967_295;
 
-// Offsets in the logical volume descriptor (ECMA-167 3/10.6), behind its tag.
-const FILE_SET: usize = 248 - TAG;
-
-const REVISION: usize = 240 - TAG;
-
-const PROTECTION: usize = 242 - TAG;
-
-const INTEGRITY: usize = 432 - TAG;
-
-// Offsets in the partition descriptor (3/10.5), and in the header in its contents use (4/14.3), behind its tag.
-const SPACE_BITMAP: usize = 64 - TAG;
-
-const ACCESS: usize = 184 - TAG;
-
-const START: usize = 188 - TAG;
-
-const LENGTH: usize = 192 - TAG;
-
 /// The bits of hard and soft write protection (UDF 2.1.5.3).
 const PROTECTION_BITS: u8 = 3;
-
-/// The identifier of the implementation use descriptor with the volume's names (UDF 2.2.7).
-const LV_INFO: [u8; 23] = *b"*UDF LV Info\0\0\0\0\0\0\0\0\0\0\0";
 
 #[tactic(auto, unfolding(crate::specs::Opened::bitmap_in))]
 fn bitmap(partition: &Fields<'_>) -> Option<Short>
@@ -67,39 +47,32 @@ fn bitmap(partition: &Fields<'_>) -> Option<Short>
     }
 }
 
-// The extent of the kept sequence.
-fn kept_extent(led: &Led) -> Span
-    ensures { result ≡ record { length = (kept (led_seen led.now)).bytes; start = (kept (led_seen led.now)).start } }
-{
-    match led.which {
-        Which::Main => led.anchor.main,
-        Which::Reserve => led.anchor.reserve,
-    }
-}
-
 // The sector of a descriptor of a kept sequence.
 fn sector_at(led: &Led, index: usize) -> u32
     requires inside { index < length_of led.now.descriptors.items }
     requires fits { (kept (led_seen led.now)).start + length_of led.now.descriptors.items < 2 ^ 32 }
     ensures { result ≡ (kept (led_seen led.now)).start + index }
 {
-    kept_extent(led).start + index as u32
+    led.anchor.extent(led.which).start + index as u32
 }
 
 // The sector of the descriptor with the volume's names that prevails in a kept sequence.
-#[tactic(auto, unfolding(crate::specs::Opened::sector_in), using(crate::proofs::Opening::information_is))]
+#[tactic(auto, using(crate::proofs::Leads::some_sector, crate::proofs::Leads::no_sector))]
 fn information_sector(led: &Led) -> Option<u32>
-    requires { (kept (led_seen led.now)).start + length_of led.now.descriptors.items < 2 ^ 32 }
-    ensures { result ≡ sector_in (led_seen led.now) 4 LV_INFO }
+    requires fits { (kept (led_seen led.now)).start + length_of led.now.descriptors.items < 2 ^ 32 }
+    requires leading { IsLeading led.now.descriptors.items led.now.leading }
+    ensures { result ≡ sector_in (led_seen led.now) 4 volume_information }
 {
-    let index = prevailing_index(&led.descriptors, IMPLEMENTATION_USE, &LV_INFO)?;
-    Some(sector_at(led, index))
+    match led.leading.information {
+        None => None,
+        Some(index) => Some(sector_at(led, index)),
+    }
 }
 
 // Whether a bit of write protection stands.
 #[tactic(auto, unfolding(crate::specs::Opened::is_guarded))]
-fn is_protected(flags: u8) -> bool
-    ensures { result ≡ is_guarded flags }
+fn is_guarded(flags: u8) -> bool
+    ensures { result ≡ is_guarded_by flags }
 {
     flags & PROTECTION_BITS != 0
 }
@@ -141,7 +114,7 @@ fn volume_of(led: &Led, size: u32, blocks: u32, logical: &Descriptor, at: usize)
         file_set: logical_fields.long_at(FILE_SET),
         revision: logical_fields.u16_at(REVISION),
         access: partition_fields.u32_at(ACCESS),
-        guarded: is_protected(logical_fields.u8_at(PROTECTION)),
+        guarded: is_guarded(logical_fields.u8_at(PROTECTION)),
     }
 }
 
@@ -171,19 +144,17 @@ fn accept<B: Bench>(
     led: &Led,
     block: &mut [u8],
 ) -> Result<Volume, LayerStop>
-    requires attached { IsAttached Image (B.files bench.old) }
-    requires within { blocks * size ≤ (B.files bench.old).image.size }
+    requires image { HasBlocks size blocks (B.files bench.old) }
     requires room { length_of block.old ≡ size }
-    requires large { 512 ≤ size }
     requires led { IsLed size blocks led.now }
     ensures answers { B.tells → Answers
-        (accepted size blocks (block_of size (bytes_of Image (B.held bench.old))) (led_seen led.now)) result }
+        (accepted size blocks (disk_of size (B.held bench.old)) (led_seen led.now)) result }
     ensures refusal { IfErr result RefusesVolume }
     ensures bounds { IfOk result (IsBounded size blocks) }
     ensures areas { IfOk result IsLaidOut }
     ensures reads { OnlyReads B.files B.held B.faults bench.old bench.new LayerStop.Fault result }
 {
-    if let Some(item) = unlike_profile(&led.descriptors, size) {
+    if let Some(item) = unlike_profile(&led.descriptors, &led.leading, size) {
         return Err(LayerStop::Missing(Missing::Profile(item)));
     }
     let Some(volume) = stated(led, size, blocks) else {
@@ -207,7 +178,7 @@ pub fn open_volume<B: Bench>(
     requires attached { IsAttached Image (B.files bench.old) }
     requires large { 512 ≤ size }
     requires sized { length ≡ (B.files bench.old).image.size }
-    ensures answers { B.tells → Answers (opened size (bytes_of Image (B.held bench.old))) result }
+    ensures answers { B.tells → Answers (opening size (bytes_of Image (B.held bench.old))) result }
     ensures refusal { IfErr result RefusesVolume }
     ensures bounds { IfOk result (IsBounded size (length / size)) }
     ensures areas { IfOk result IsLaidOut }
@@ -221,8 +192,8 @@ pub fn open_volume<B: Bench>(
     let places = places_of(alloc, blocks)?;
     let mut block = vec![in alloc; 0u8; size as usize]?;
     match search(alloc, bench, size, blocks, &places, &mut block)? {
-        Found::Nothing => Err(LayerStop::Missing(Missing::Anchor)),
-        Found::Unled => Err(LayerStop::Missing(Missing::Sequence)),
-        Found::Kept(led) => accept(alloc, bench, size, blocks, &led, &mut block),
+        AnchorSearch::Nothing => Err(LayerStop::Missing(Missing::Anchor)),
+        AnchorSearch::Unled => Err(LayerStop::Missing(Missing::Sequence)),
+        AnchorSearch::Kept(led) => accept(alloc, bench, size, blocks, &led, &mut block),
     }
 }

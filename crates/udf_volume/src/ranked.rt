@@ -5,8 +5,8 @@ ghost use Rattle.udf_volume_model.specs.Prevailing.{subject_of, prevailing as pr
 ghost use Rattle.udf_volume.specs.Best.{AreBest};
 
 use crate::Descriptor;
-use crate::highest::higher;
 use crate::matter::Matter;
+use crate::prevailing::higher;
 use std::alloc::{AllocError, Global};
 use std::collections::BTreeMap;
 use std::marker::Model;

@@ -1,23 +1,24 @@
 //! Lists of descriptors: what a block says in a sequence, and the descriptors of an extent.
-ghost use Rattle.std.specs.Prelude.{◌≡◌, ◌+◌, ◌*◌, ◌≤◌, ◌<◌, ◌^◌, ℕ, List, length, IfOk, IsErrOf, true};
-ghost use Rattle.udf_model.specs.Image.{block_of, is_zeros};
-ghost use Rattle.udf_outside.specs.Files.{IsAttached};
+ghost use Rattle.std.specs.Prelude.{◌≡◌, ◌+◌, ◌≤◌, ◌<◌, ◌^◌, length, IfOk, true};
+ghost use Rattle.udf_model.specs.Image.{is_zeros};
 ghost use Rattle.udf_outside.specs.Stops.{bytes_of};
 ghost use Rattle.udf_outside.specs.Reads.{OnlyReads};
+ghost use Rattle.udf_outside.specs.Sectors.{disk_of};
 ghost use Rattle.udf_outside.specs.declared.bench.Role.TheVariants.{Image};
 ghost use Rattle.udf_volume_model.specs.Sequence.{is_listed, other_view, view_of, views, front_of, is_spoilt};
 ghost use Rattle.udf_volume_model.specs.Anchor.{is_extent};
-ghost use Rattle.udf_volume.specs.Says.{said};
+ghost use Rattle.udf_volume.specs.Views.{view_seen};
 ghost use Rattle.udf_volume.specs.Seen.{extent_seen};
-ghost use Rattle.udf_volume.specs.Spans.{said_in};
+ghost use Rattle.udf_volume.specs.Spans.{views_in};
+ghost use Rattle.udf_volume.specs.Over.{HasBlocks, IsOver};
 
+use crate::descriptor::{
+    IMPLEMENTATION_USE, LOGICAL_VOLUME, PARTITION, POINTER, PRIMARY, TERMINATING, UNALLOCATED_SPACE,
+};
 use crate::{Descriptor, Volume, WorkStop};
 use std::alloc::{AllocError, Global};
 use udf_field::{Span, whole_id};
 use udf_outside::{Bench, read_block};
-
-/// The identifier of a terminating descriptor (ECMA-167 3/10.9).
-const TERMINATING: u16 = 8;
 
 /// The descriptors of a list, up to the first block that ends or spoils it.
 #[derive(Debug, Drop)]
@@ -28,7 +29,7 @@ pub struct DescriptorList {
 
 /// What a block says in a sequence.
 #[derive(Debug, Drop)]
-enum Says {
+enum View {
     End,
     Spoiled,
     Listed(Descriptor),
@@ -45,32 +46,35 @@ fn all_zeros(block: &[u8]) -> bool
 fn is_volume_descriptor(id: u16) -> bool
     ensures { result ≡ is_listed id }
 {
-    id == 1 || id == 3 || id == 4 || id == 5 || id == 6 || id == 7
+    matches!(
+        id,
+        PRIMARY | POINTER | IMPLEMENTATION_USE | PARTITION | LOGICAL_VOLUME | UNALLOCATED_SPACE
+    )
 }
 
 // What a block says that is neither terminator nor descriptor.
 #[tactic(auto, unfolding(udf_volume_model::specs::Sequence::other_view))]
-fn other(block: &[u8]) -> Says
-    ensures { said result ≡ other_view block.now }
+fn other(block: &[u8]) -> View
+    ensures { view_seen result ≡ other_view block.now }
 {
     if all_zeros(block) {
-        Says::End
+        View::End
     } else {
-        Says::Spoiled
+        View::Spoiled
     }
 }
 
 #[tactic(auto, unfolding(udf_volume_model::specs::Sequence::view_of))]
-fn what_it_says(alloc: Global, block: &[u8]) -> Result<Says, AllocError>
+fn read_view(alloc: Global, block: &[u8]) -> Result<View, AllocError>
     requires { 512 ≤ length block.now }
-    ensures { IfOk result (λ told. said told ≡ view_of block.now) }
+    ensures { IfOk result (λ view. view_seen view ≡ view_of block.now) }
 {
     match whole_id(block) {
         None => Ok(other(block)),
-        Some(TERMINATING) => Ok(Says::End),
+        Some(TERMINATING) => Ok(View::End),
         Some(id) => {
             if is_volume_descriptor(id) {
-                Ok(Says::Listed(Descriptor::of(alloc, id, block)?))
+                Ok(View::Listed(Descriptor::of(alloc, id, block)?))
             } else {
                 Ok(other(block))
             }
@@ -89,31 +93,29 @@ pub fn read_descriptors<B: Bench>(
     count: u32,
     block: &mut [u8],
 ) -> Result<DescriptorList, WorkStop>
-    requires attached { IsAttached Image (B.files bench.old) }
-    requires within { (start + count) * size ≤ (B.files bench.old).image.size }
+    requires image { HasBlocks size (start + count) (B.files bench.old) }
     requires numbers { start + count < 2 ^ 32 }
     requires room { length block.old ≡ size }
-    requires large { 512 ≤ size }
     ensures front { B.tells → IfOk result (λ list. list.descriptors.items
-        ≡ front_of (views (block_of size (bytes_of Image (B.held bench.old))) start count)) }
+        ≡ front_of (views (disk_of size (B.held bench.old)) start count)) }
     ensures spoilt { B.tells → IfOk result (λ list. list.is_spoilt
-        ≡ is_spoilt (views (block_of size (bytes_of Image (B.held bench.old))) start count)) }
+        ≡ is_spoilt (views (disk_of size (B.held bench.old)) start count)) }
     ensures short { IfOk result (λ list. length list.descriptors.items ≤ count) }
     ensures reads { OnlyReads B.files B.held B.faults bench.old bench.new WorkStop.Fault result }
 {
     let mut descriptors = Vec::new(alloc);
     for i in 0..count {
         read_block(bench, size, start + i, block)?;
-        match what_it_says(alloc, block)? {
-            Says::End => return Ok(DescriptorList {
+        match read_view(alloc, block)? {
+            View::End => return Ok(DescriptorList {
                 descriptors,
                 is_spoilt: false,
             }),
-            Says::Spoiled => return Ok(DescriptorList {
+            View::Spoiled => return Ok(DescriptorList {
                 descriptors,
                 is_spoilt: true,
             }),
-            Says::Listed(descriptor) => descriptors.push(descriptor)?,
+            View::Listed(descriptor) => descriptors.push(descriptor)?,
         }
     }
     Ok(DescriptorList {
@@ -124,23 +126,20 @@ pub fn read_descriptors<B: Bench>(
 
 /// The descriptors of the list that begins one of a volume's sequence extents. `block` is lent and has the block size.
 #[tactic(auto, using(crate::proofs::Extents::fits, crate::proofs::Extents::in_numbers))]
-pub fn read_sequence<B: Bench>(
+pub(crate) fn read_sequence<B: Bench>(
     alloc: Global,
     bench: &mut B,
     volume: &Volume,
     extent: Span,
     block: &mut [u8],
 ) -> Result<DescriptorList, WorkStop>
-    requires attached { IsAttached Image (B.files bench.old) }
-    requires within { volume.now.blocks * volume.now.size ≤ (B.files bench.old).image.size }
+    requires over { IsOver volume.now (B.files bench.old) }
     requires room { length block.old ≡ volume.now.size }
-    requires large { 512 ≤ volume.now.size }
-    requires few { volume.now.blocks < 2 ^ 32 }
     requires extent { is_extent volume.now.size volume.now.blocks (extent_seen extent) ≡ true }
     ensures front { B.tells → IfOk result (λ list. list.descriptors.items
-        ≡ front_of (said_in volume.now.size (bytes_of Image (B.held bench.old)) extent)) }
+        ≡ front_of (views_in volume.now.size (bytes_of Image (B.held bench.old)) extent)) }
     ensures spoilt { B.tells → IfOk result (λ list. list.is_spoilt
-        ≡ is_spoilt (said_in volume.now.size (bytes_of Image (B.held bench.old)) extent)) }
+        ≡ is_spoilt (views_in volume.now.size (bytes_of Image (B.held bench.old)) extent)) }
     ensures reads { OnlyReads B.files B.held B.faults bench.old bench.new WorkStop.Fault result }
 {
     let count = volume.blocks_of(extent);

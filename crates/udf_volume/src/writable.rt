@@ -6,8 +6,8 @@ ghost use Rattle.udf_outside.specs.Reads.{OnlyReads};
 ghost use Rattle.udf_outside.specs.declared.bench.Role.TheVariants.{Image};
 ghost use Rattle.udf_volume_model.specs.Opened.{is_opened, is_protected_image};
 ghost use Rattle.udf_volume.specs.Laid.{IsLaidOut};
-ghost use Rattle.udf_volume.specs.Opened.{Answers, IsBounded, opened};
-ghost use Rattle.udf_volume.specs.Writable.{opened_writable, is_protected as is_protected_stated};
+ghost use Rattle.udf_volume.specs.Opened.{Answers, IsBounded, opening};
+ghost use Rattle.udf_volume.specs.Writable.{writable_opening, is_protected as is_protected_stated};
 
 use crate::{LayerStop, Missing, Volume, open_volume};
 use std::alloc::Global;
@@ -46,7 +46,7 @@ pub fn open_writable<B: Bench>(
     requires attached { IsAttached Image (B.files bench.old) }
     requires large { 512 ≤ size }
     requires sized { length ≡ (B.files bench.old).image.size }
-    ensures answers { B.tells → Answers (opened_writable size (bytes_of Image (B.held bench.old))) result }
+    ensures answers { B.tells → Answers (writable_opening size (bytes_of Image (B.held bench.old))) result }
     ensures bounds { IfOk result (IsBounded size (length / size)) }
     ensures areas { IfOk result IsLaidOut }
     ensures reads { OnlyReads B.files B.held B.faults bench.old bench.new LayerStop.Fault result }
@@ -66,6 +66,6 @@ pub fn open_writable<B: Bench>(
 /// A volume is opened exactly where no refusal of its description applies; and one that may be written exactly where besides
 /// its descriptors do not protect it.
 pub fn opened_law()
-    ensures opened { (size : ℕ) (image : List ℕ) → is_opened size image ≡ is_ok (opened size image) }
-    ensures writable { (size : ℕ) (image : List ℕ) → (is_opened size image && not (is_protected_image size image)) ≡ is_ok (opened_writable size image) }
+    ensures opened { (size : ℕ) (image : List ℕ) → is_opened size image ≡ is_ok (opening size image) }
+    ensures writable { (size : ℕ) (image : List ℕ) → (is_opened size image && not (is_protected_image size image)) ≡ is_ok (writable_opening size image) }
 {}

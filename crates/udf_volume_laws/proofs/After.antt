@@ -5,7 +5,7 @@ use Rattle.std.specs.List.{list_all, filter}
 use Rattle.udf_model.specs.Tag.{relocated}
 use Rattle.udf_volume_model.specs.Sequence.{view_of}
 use Rattle.udf_volume_model.specs.Anchor.{blocks_of, places}
-use Rattle.udf_volume_model.specs.Kept.{Volume, Main, kept, other, extent_of, opposite, limit_of, sequence_at, led_from, volume_in}
+use Rattle.udf_volume_model.specs.Kept.{KeptSequence, Main, kept, other, extent_of, opposite, limit_of, sequence_at, led_from, kept_sequence_in}
 use Rattle.udf_volume_model.specs.Areas.{Area, areas_of, partition_area, covers, is_outside}
 use Rattle.udf_volume_model.specs.Profile.{is_profile}
 use Rattle.udf_volume_model.specs.Layout.{are_lawful, are_places_lawful, is_lawful, is_passed, earlier}
@@ -24,19 +24,19 @@ use Rattle.udf_volume_laws.proofs.Places.{IsAnchor, is_anchor, anchor_from, good
 use Rattle.udf_volume_laws.proofs.Led.{IsLed, IsMain, IsReserve, IsSequence, is_sequence, leads, found, same_sequence, walks_of, sequence_of}
 use Rattle.udf_volume_laws.proofs.Pair.{IsPair, pair, kept_sequence}
 
-abbrev pub areas_in : ℕ → Volume → List Area
+abbrev pub areas_in : ℕ → KeptSequence → List Area
 areas_in size volume = areas_of size volume.anchor volume.list
 
 -- a disk whose volume is opened
-pub record IsOpened (size blocks : ℕ) (disk : ℕ → List ℕ) (volume : Volume) : Type 0 where
+pub record IsOpened (size blocks : ℕ) (disk : ℕ → List ℕ) (volume : KeptSequence) : Type 0 where
   pub large : 512 ≤ size
   pub small : blocks < 2 ^ 32
   pub full : (n : ℕ) → n < blocks → length (disk n) ≡ size
-  pub is : volume_in size blocks disk (places blocks) ≡ Some volume
+  pub is : kept_sequence_in size blocks disk (places blocks) ≡ Some volume
   pub opened : is_opened_by size blocks disk (Some volume) ≡ true
 
 -- what follows at once
-pub record Facts (size blocks : ℕ) (disk : ℕ → List ℕ) (volume : Volume) : Type 0 where
+pub record Facts (size blocks : ℕ) (disk : ℕ → List ℕ) (volume : KeptSequence) : Type 0 where
   pub member : IsIn volume.place (places blocks)
   pub side : IsMain size disk volume ⊎ IsReserve size disk volume
   pub anchor : IsAnchor size blocks volume.place (disk volume.place) volume.anchor
@@ -46,7 +46,7 @@ pub record Facts (size blocks : ℕ) (disk : ℕ → List ℕ) (volume : Volume)
   pub outside : is_outside (areas_in size volume) volume.place ≡ true
   pub passed : list_all (is_passed size blocks disk (areas_in size volume)) (earlier volume.place (places blocks)) ≡ true
 
-pub facts : (size blocks : ℕ) (disk : ℕ → List ℕ) (volume : Volume) → IsOpened size blocks disk volume → Facts size blocks disk volume
+pub facts : (size blocks : ℕ) (disk : ℕ → List ℕ) (volume : KeptSequence) → IsOpened size blocks disk volume → Facts size blocks disk volume
 unfolding is_lawful are_places_lawful
 facts size blocks disk volume a =
     let place = found size blocks disk (places blocks) volume a.is in
@@ -67,7 +67,7 @@ facts size blocks disk volume a =
     }
 
 -- where the edits are not
-pub sequence_off : (size : ℕ) (disk : ℕ → List ℕ) (volume : Volume) (n : ℕ)
+pub sequence_off : (size : ℕ) (disk : ℕ → List ℕ) (volume : KeptSequence) (n : ℕ)
     → length volume.list < limit_of size volume.anchor → limit_of size volume.anchor ≤ blocks_of size (other volume)
     → (n < (other volume).start) ⊎ ((other volume).start + blocks_of size (other volume) ≤ n) → IsOff n (sequence_edits size disk volume)
 unfolding sequence_edits
@@ -82,29 +82,29 @@ sequence_off size disk volume n below limit h = by_rule (sequences_hold size dis
   by_rule false = by_side h
 
 -- a place that is bad and eligible
-record IsBad (size blocks : ℕ) (disk : ℕ → List ℕ) (volume : Volume) (n : ℕ) : Type 0 where
+record IsBad (size blocks : ℕ) (disk : ℕ → List ℕ) (volume : KeptSequence) (n : ℕ) : Type 0 where
   place : IsIn n (ascending_places blocks)
   ruled : is_eligible (areas_in size volume) n ≡ true
   bad : not (is_good volume.anchor n (disk n)) ≡ true
 
-bad_parts : (size blocks : ℕ) (disk : ℕ → List ℕ) (volume : Volume) (n : ℕ) → IsIn n (bad_of disk volume (eligible size blocks volume)) → IsBad size blocks disk volume n
+bad_parts : (size blocks : ℕ) (disk : ℕ → List ℕ) (volume : KeptSequence) (n : ℕ) → IsIn n (bad_of disk volume (eligible size blocks volume)) → IsBad size blocks disk volume n
 unfolding eligible
 bad_parts size blocks disk volume n i =
     let one = kept_in (λ place. not (is_good volume.anchor place (disk place))) (filter (is_eligible (areas_in size volume)) (ascending_places blocks)) n i in
     let two = kept_in (is_eligible (areas_in size volume)) (ascending_places blocks) n one.0 in
     record { place = two.0; ruled = two.1; bad = one.1 }
 
-pub bad_place : (size blocks : ℕ) (disk : ℕ → List ℕ) (volume : Volume) (n : ℕ) → IsIn n (bad_of disk volume (eligible size blocks volume)) → IsIn n (ascending_places blocks)
+pub bad_place : (size blocks : ℕ) (disk : ℕ → List ℕ) (volume : KeptSequence) (n : ℕ) → IsIn n (bad_of disk volume (eligible size blocks volume)) → IsIn n (ascending_places blocks)
 bad_place size blocks disk volume n i = (bad_parts size blocks disk volume n i).place
 
-bad_from : (size blocks : ℕ) (disk : ℕ → List ℕ) (volume : Volume) (n : ℕ) → IsIn n (ascending_places blocks) → is_eligible (areas_in size volume) n ≡ true
+bad_from : (size blocks : ℕ) (disk : ℕ → List ℕ) (volume : KeptSequence) (n : ℕ) → IsIn n (ascending_places blocks) → is_eligible (areas_in size volume) n ≡ true
     → is_good volume.anchor n (disk n) ≡ false → IsIn n (bad_of disk volume (eligible size blocks volume))
 unfolding eligible
 bad_from size blocks disk volume n i e bad =
     in_kept (λ place. not (is_good volume.anchor place (disk place))) (filter (is_eligible (areas_in size volume)) (ascending_places blocks)) n
     (in_kept (is_eligible (areas_in size volume)) (ascending_places blocks) n i e) (ap not bad)
 
-pub anchors_off_edits : (size blocks : ℕ) (disk : ℕ → List ℕ) (volume : Volume) (n : ℕ)
+pub anchors_off_edits : (size blocks : ℕ) (disk : ℕ → List ℕ) (volume : KeptSequence) (n : ℕ)
     → (is_eligible (areas_in size volume) n ≡ false) ⊎ (is_good volume.anchor n (disk n) ≡ true) → IsOff n (anchor_edits size blocks disk volume)
 unfolding anchor_edits
 anchors_off_edits size blocks disk volume n h = by_rule (anchors_hold size blocks disk volume) where
@@ -117,13 +117,13 @@ anchors_off_edits size blocks disk volume n h = by_rule (anchors_hold size block
   by_rule false = chosen_off (λ place. relocated place (disk volume.place)) (bad_of disk volume (eligible size blocks volume)) n (none h)
 
 -- what stands afterwards where nothing was put
-pub untouched : (size blocks : ℕ) (disk : ℕ → List ℕ) (volume : Volume) (n : ℕ)
+pub untouched : (size blocks : ℕ) (disk : ℕ → List ℕ) (volume : KeptSequence) (n : ℕ)
     → IsOff n (sequence_edits size disk volume) → IsOff n (anchor_edits size blocks disk volume) → look n (edits size blocks disk volume) (disk n) ≡ disk n
 unfolding edits
 untouched size blocks disk volume n h k =
     off n (sequence_edits size disk volume ++ anchor_edits size blocks disk volume) (disk n) (off_both n _ _ h k)
 
-module _ (size blocks : ℕ) (disk : ℕ → List ℕ) (volume : Volume) (given : IsOpened size blocks disk volume) where
+module _ (size blocks : ℕ) (disk : ℕ → List ℕ) (volume : KeptSequence) (given : IsOpened size blocks disk volume) where
   abbrev pub after : ℕ → List ℕ
   after n = look n (edits size blocks disk volume) (disk n)
 
@@ -244,7 +244,7 @@ module _ (size blocks : ℕ) (disk : ℕ → List ℕ) (volume : Volume) (given 
   place_stays : after volume.place ≡ disk volume.place
   place_stays = good_stays volume.place known.outside (good_from size blocks volume.place (disk volume.place) volume.anchor known.anchor)
 
-  abbrev pub volume_after : ℕ → Volume
+  abbrev pub volume_after : ℕ → KeptSequence
   volume_after place = record { place = place; anchor = volume.anchor; which = Main; list = volume.list }
 
   pub leads_after : (n : ℕ) → IsAnchor size blocks n (after n) volume.anchor → led_from size blocks after n ≡ Some (volume_after n)

@@ -8,7 +8,7 @@ use Rattle.std.proofs.lemmas.List.{get_or-take, get_or-drop, ext_get_or}
 use Rattle.std.proofs.lemmas.Nat.{div-add-mod'}
 use Rattle.std.proofs.lemmas.Slice.Eq.{bytes_eq-Decides}
 use Rattle.udf_model.specs.Image.{block_of, blocks_in}
-use Rattle.udf_volume_model.specs.Kept.{Volume, volume_of}
+use Rattle.udf_volume_model.specs.Kept.{KeptSequence, kept_sequence_of}
 use Rattle.udf_volume_model.specs.Areas.{partition_area, covers}
 use Rattle.udf_volume_model.specs.Edits.{look}
 use Rattle.udf_volume_model.specs.Mended.{edits}
@@ -55,13 +55,13 @@ no_difference_block size image after n none below =
     same_bytes _ _ (none_left (λ m. bytes_eq (block_of size image m) (block_of size after m)) (blocks_in size image) 0 n none (omega arith) (omega arith))
 
 -- a block of the mended image is the edit's, or the image's
-pub mended_block : (size : ℕ) (image : List ℕ) (volume : Volume) (n : ℕ) → 512 ≤ size → is_opened size image ≡ true → volume_of size image ≡ Some volume
+pub mended_block : (size : ℕ) (image : List ℕ) (volume : KeptSequence) (n : ℕ) → 512 ≤ size → is_opened size image ≡ true → kept_sequence_of size image ≡ Some volume
     → block_of size (volume_mended size image) n ≡ look n (edits size (blocks_in size image) (block_of size image) volume) (block_of size image n)
 mended_block size image volume n large a is =
     let held = held_of size image volume large a is in
     ap (λ m. block_of size m n) (mended_is size image volume a is) ∙ ap (λ disk. disk n) (put_disk size image volume held)
 
-module _ (size : ℕ) (image : List ℕ) (volume : Volume) (large : 512 ≤ size) (a : is_opened size image ≡ true) (is : volume_of size image ≡ Some volume) where
+module _ (size : ℕ) (image : List ℕ) (volume : KeptSequence) (large : 512 ≤ size) (a : is_opened size image ≡ true) (is : kept_sequence_of size image ≡ Some volume) where
   held : IsOpened size (blocks_in size image) (block_of size image) volume
   held = held_of size image volume large a is
 

@@ -5,7 +5,7 @@ use Rattle.std.proofs.lemmas.Bool.{ltb-true, lt-ltb, and_parts, and_from}
 use Rattle.std.proofs.lemmas.List.{length-take-le, length-drop}
 use Rattle.udf_model.specs.Tag.{relocated}
 use Rattle.udf_model.specs.Image.{block_of, blocks_in}
-use Rattle.udf_volume_model.specs.Kept.{Volume, kept, other, volume_of, limit_of}
+use Rattle.udf_volume_model.specs.Kept.{KeptSequence, kept, other, kept_sequence_of, limit_of}
 use Rattle.udf_volume_model.specs.Areas.{areas_of}
 use Rattle.udf_volume_model.specs.Rules.{eligible, bad_of, anchors_hold, sequences_hold, rules_hold}
 use Rattle.udf_volume_model.specs.Edits.{look, put_blocks}
@@ -28,25 +28,25 @@ block_length size image n h =
 
 pub opened_parts : (size : ℕ) (image : List ℕ) → is_opened size image ≡ true
     → (blocks_in size image < 2 ^ 32)
-    × ((volume : Volume) × (volume_of size image ≡ Some volume)
+    × ((volume : KeptSequence) × (kept_sequence_of size image ≡ Some volume)
     × (is_opened_by size (blocks_in size image) (block_of size image) (Some volume) ≡ true))
 unfolding is_opened
-opened_parts size image e = (ltb-true _ _ parts.0, by_volume (volume_of size image) refl parts.1) where
+opened_parts size image e = (ltb-true _ _ parts.0, by_volume (kept_sequence_of size image) refl parts.1) where
   parts : (ltb (blocks_in size image) 4294967296 ≡ true)
-      × (is_opened_by size (blocks_in size image) (block_of size image) (volume_of size image) ≡ true)
-  parts = and_parts (ltb (blocks_in size image) 4294967296) (is_opened_by size (blocks_in size image) (block_of size image) (volume_of size image)) e
+      × (is_opened_by size (blocks_in size image) (block_of size image) (kept_sequence_of size image) ≡ true)
+  parts = and_parts (ltb (blocks_in size image) 4294967296) (is_opened_by size (blocks_in size image) (block_of size image) (kept_sequence_of size image)) e
 
-  by_volume : (found : Option Volume) → volume_of size image ≡ found
+  by_volume : (found : Option KeptSequence) → kept_sequence_of size image ≡ found
       → is_opened_by size (blocks_in size image) (block_of size image) found ≡ true
-      → (volume : Volume) × (volume_of size image ≡ Some volume)
+      → (volume : KeptSequence) × (kept_sequence_of size image ≡ Some volume)
       × (is_opened_by size (blocks_in size image) (block_of size image) (Some volume) ≡ true)
   by_volume None v a = absurd (cc)
   by_volume (Some volume) v a = (volume, v, a)
 
-pub given : (size : ℕ) (image : List ℕ) (volume : Volume) → 512 ≤ size → blocks_in size image < 2 ^ 32 → volume_of size image ≡ Some volume
+pub given : (size : ℕ) (image : List ℕ) (volume : KeptSequence) → 512 ≤ size → blocks_in size image < 2 ^ 32 → kept_sequence_of size image ≡ Some volume
     → is_opened_by size (blocks_in size image) (block_of size image) (Some volume) ≡ true
     → IsOpened size (blocks_in size image) (block_of size image) volume
-unfolding volume_of
+unfolding kept_sequence_of
 given size image volume large small is opened = record {
   large = large;
   small = small;
@@ -55,15 +55,15 @@ given size image volume large small is opened = record {
   opened = opened;
 }
 
-pub held_of : (size : ℕ) (image : List ℕ) (volume : Volume) → 512 ≤ size → is_opened size image ≡ true → volume_of size image ≡ Some volume
+pub held_of : (size : ℕ) (image : List ℕ) (volume : KeptSequence) → 512 ≤ size → is_opened size image ≡ true → kept_sequence_of size image ≡ Some volume
     → IsOpened size (blocks_in size image) (block_of size image) volume
 held_of size image volume large a is =
     let parts = opened_parts size image a in
     let same : parts.1.0 ≡ volume = let s : Some parts.1.0 ≡ Some volume = sym parts.1.1 ∙ is in cc in
-    subst (λ (v : Volume). IsOpened size (blocks_in size image) (block_of size image) v) same (given size image parts.1.0 large parts.0 parts.1.1 parts.1.2)
+    subst (λ (v : KeptSequence). IsOpened size (blocks_in size image) (block_of size image) v) same (given size image parts.1.0 large parts.0 parts.1.1 parts.1.2)
 
 -- the edits fit
-module _ (size : ℕ) (image : List ℕ) (volume : Volume)
+module _ (size : ℕ) (image : List ℕ) (volume : KeptSequence)
     (held : IsOpened size (blocks_in size image) (block_of size image) volume) where
   known : Facts size (blocks_in size image) (block_of size image) volume
   known = facts size (blocks_in size image) (block_of size image) volume held
@@ -119,7 +119,7 @@ module _ (size : ℕ) (image : List ℕ) (volume : Volume)
       (volume_after size (blocks_in size image) (block_of size image) volume held place) (block_of size put)
   law =
       let m = mends size (blocks_in size image) (block_of size image) volume held in
-      let after : Volume = volume_after size (blocks_in size image) (block_of size image) volume held m.0 in (
+      let after : KeptSequence = volume_after size (blocks_in size image) (block_of size image) volume held m.0 in (
         m.0,
         subst (λ (disk : ℕ → List ℕ). IsMended size (blocks_in size put) volume after disk) (sym put_disk)
             (subst (λ (count : ℕ). IsMended size count volume after put_after) (sym put_count) m.1),
@@ -130,16 +130,16 @@ pub record IsMendedImage (size : ℕ) (image after : List ℕ) : Type 0 where
   pub length_stays : length after ≡ length image
   pub opened : is_opened size after ≡ true
   pub rules : is_volume_unbroken size after ≡ true
-  pub before_is : Volume
-  pub after_is : Volume
-  pub before_volume : volume_of size image ≡ Some before_is
-  pub after_volume : volume_of size after ≡ Some after_is
+  pub before_is : KeptSequence
+  pub after_is : KeptSequence
+  pub before_volume : kept_sequence_of size image ≡ Some before_is
+  pub after_volume : kept_sequence_of size after ≡ Some after_is
   pub same : IsSame size (blocks_in size image) before_is after_is
 
-finish : (size : ℕ) (image : List ℕ) (before : Volume) (after : List ℕ) (next : Volume) → volume_of size image ≡ Some before → length after ≡ length image → blocks_in size after < 2 ^ 32
+finish : (size : ℕ) (image : List ℕ) (before : KeptSequence) (after : List ℕ) (next : KeptSequence) → kept_sequence_of size image ≡ Some before → length after ≡ length image → blocks_in size after < 2 ^ 32
     → blocks_in size after ≡ blocks_in size image
     → IsMended size (blocks_in size after) before next (block_of size after) → IsMendedImage size image after
-unfolding volume_of is_opened is_volume_unbroken rules_hold
+unfolding kept_sequence_of is_opened is_volume_unbroken rules_hold
 finish size image before after next is long few count m = record {
   length_stays = long;
   opened = and_from _ _ (lt-ltb _ _ few) (ap (is_opened_by size (blocks_in size after) (block_of size after)) m.is ∙ m.opened);
@@ -157,10 +157,10 @@ finish size image before after next is long few count m = record {
   };
 }
 
-pub mended_is : (size : ℕ) (image : List ℕ) (volume : Volume) → is_opened size image ≡ true → volume_of size image ≡ Some volume
+pub mended_is : (size : ℕ) (image : List ℕ) (volume : KeptSequence) → is_opened size image ≡ true → kept_sequence_of size image ≡ Some volume
     → volume_mended size image ≡ mended_by size image (Some volume)
 unfolding volume_mended
-mended_is size image volume a is = ap (λ b. cond b (mended_by size image (volume_of size image)) image) a ∙ ap (mended_by size image) is
+mended_is size image volume a is = ap (λ b. cond b (mended_by size image (kept_sequence_of size image)) image) a ∙ ap (mended_by size image) is
 
 pub mended_image : (size : ℕ) (image : List ℕ) → 512 ≤ size → is_opened size image ≡ true → IsMendedImage size image (volume_mended size image)
 mended_image size image large e =

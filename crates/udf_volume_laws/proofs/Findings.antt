@@ -3,10 +3,10 @@ use Rattle.std.proofs.Common.{◌≡◌, inl, inr, ℕ, ◌-◌, ◌<◌, ◌≤
 use Rattle.std.specs.List.{list_all, filter}
 use Rattle.std.proofs.lemmas.Bool.{and_parts, and_from, eqb-false, ltb-true, ltb-false}
 use Rattle.udf_volume_model.specs.Anchor.{blocks_of}
-use Rattle.udf_volume_model.specs.Kept.{Volume, other}
+use Rattle.udf_volume_model.specs.Kept.{KeptSequence, other}
 use Rattle.udf_volume_model.specs.Sequence.{views, front_of}
 use Rattle.udf_volume_model.specs.Areas.{areas_of}
-use Rattle.udf_volume_model.specs.Rules.{ascending_places, is_eligible, eligible, is_good, good_of, bad_of, anchors_hold, sequences_hold, rules_hold, Sector, Found, anchor_findings, sequence_findings, findings}
+use Rattle.udf_volume_model.specs.Rules.{ascending_places, is_eligible, eligible, is_good, good_of, bad_of, anchors_hold, sequences_hold, rules_hold, Sector, Finding, anchor_findings, sequence_findings, findings}
 use Rattle.udf_volume_model.specs.Order.{AscendsFrom, Ascends}
 
 -- numbers ascend, from one on
@@ -68,7 +68,7 @@ places_rise blocks = by_zero (eqb blocks 0) where
   by_zero false = by_second (ltb blocks 257) refl
 
 -- findings of the rule on anchors, before those of the rule on sequences
-before_sequences : (size : ℕ) (disk : ℕ → List ℕ) (volume : Volume) (first : Found) → first.rule ≡ 2 → AscendsFrom first (sequence_findings size disk volume)
+before_sequences : (size : ℕ) (disk : ℕ → List ℕ) (volume : KeptSequence) (first : Finding) → first.rule ≡ 2 → AscendsFrom first (sequence_findings size disk volume)
 unfolding sequence_findings
 before_sequences size disk volume first two = by_rule (sequences_hold size disk volume) where
   by_rule : (b : Bool) → AscendsFrom first (cond b [] (record {
@@ -80,7 +80,7 @@ before_sequences size disk volume first two = by_rule (sequences_hold size disk 
   by_rule true = tt
   by_rule false = (inl (omega (arith, two)), tt)
 
-sequences_ascend : (size : ℕ) (disk : ℕ → List ℕ) (volume : Volume) → Ascends (sequence_findings size disk volume)
+sequences_ascend : (size : ℕ) (disk : ℕ → List ℕ) (volume : KeptSequence) → Ascends (sequence_findings size disk volume)
 unfolding sequence_findings
 sequences_ascend size disk volume = by_rule (sequences_hold size disk volume) where
   by_rule : (b : Bool) → Ascends (cond b [] (record {
@@ -92,8 +92,8 @@ sequences_ascend size disk volume = by_rule (sequences_hold size disk volume) wh
   by_rule true = tt
   by_rule false = tt
 
-module _ (size : ℕ) (disk : ℕ → List ℕ) (volume : Volume) (good all : ℕ) where
-  abbrev of_place : ℕ → Found
+module _ (size : ℕ) (disk : ℕ → List ℕ) (volume : KeptSequence) (good all : ℕ) where
+  abbrev of_place : ℕ → Finding
   of_place place = record { rule = 2; place = Sector place; first = good; second = all }
 
   from_place : (x : ℕ) (xs : List ℕ) → Climbs x xs → AscendsFrom (of_place x) (map of_place xs ++ sequence_findings size disk volume)
@@ -104,7 +104,7 @@ module _ (size : ℕ) (disk : ℕ → List ℕ) (volume : Volume) (good all : �
   places_ascend [] c = sequences_ascend size disk volume
   places_ascend (x ∷ xs) c = from_place x xs c
 
-pub order : (size blocks : ℕ) (disk : ℕ → List ℕ) (volume : Volume) → Ascends (findings size blocks disk volume)
+pub order : (size blocks : ℕ) (disk : ℕ → List ℕ) (volume : KeptSequence) → Ascends (findings size blocks disk volume)
 unfolding findings anchor_findings eligible
 order size blocks disk volume = by_rule (anchors_hold size blocks disk volume) where
   by_rule : (b : Bool) → Ascends (cond b [] (map (λ place. record {
@@ -119,7 +119,7 @@ order size blocks disk volume = by_rule (anchors_hold size blocks disk volume) w
       (filter_rises (λ place. not (is_good volume.anchor place (disk place))) (filter (is_eligible (areas_of size volume.anchor volume.list)) (ascending_places blocks))
       (filter_rises (is_eligible (areas_of size volume.anchor volume.list)) (ascending_places blocks) (places_rise blocks)))
 
-pub unbroken : (size blocks : ℕ) (disk : ℕ → List ℕ) (volume : Volume) → rules_hold size blocks disk volume ≡ true → findings size blocks disk volume ≡ []
+pub unbroken : (size blocks : ℕ) (disk : ℕ → List ℕ) (volume : KeptSequence) → rules_hold size blocks disk volume ≡ true → findings size blocks disk volume ≡ []
 unfolding rules_hold findings anchor_findings sequence_findings
 unbroken size blocks disk volume e =
     let parts = and_parts (anchors_hold size blocks disk volume) (sequences_hold size disk volume) e in
@@ -137,7 +137,7 @@ unbroken size blocks disk volume e =
     } ∷ [])) parts.1
 
 -- where all that is filtered is none, all pass
-none_bad : (test : ℕ → Bool) (xs : List ℕ) (f : ℕ → Found) (rest : List Found) → map f (filter (λ x. not (test x)) xs) ++ rest ≡ [] → list_all test xs ≡ true
+none_bad : (test : ℕ → Bool) (xs : List ℕ) (f : ℕ → Finding) (rest : List Finding) → map f (filter (λ x. not (test x)) xs) ++ rest ≡ [] → list_all test xs ≡ true
 none_bad test [] f rest e = refl
 none_bad test (x ∷ xs) f rest e = by_test (none_bad test xs f rest) (test x) refl e where
   by_test : (map f (filter (λ y. not (test y)) xs) ++ rest ≡ [] → list_all test xs ≡ true) → (b : Bool) → test x ≡ b
@@ -145,14 +145,14 @@ none_bad test (x ∷ xs) f rest e = by_test (none_bad test xs f rest) (test x) r
   by_test again true t g = and_from _ _ t (again g)
   by_test again false t g = absurd (cc)
 
-none_after : (xs ys : List Found) → xs ++ ys ≡ [] → ys ≡ []
+none_after : (xs ys : List Finding) → xs ++ ys ≡ [] → ys ≡ []
 none_after [] ys e = e
 none_after (x ∷ xs) ys e = absurd (cc)
 
-third_holds : (size : ℕ) (disk : ℕ → List ℕ) (volume : Volume) → sequence_findings size disk volume ≡ [] → sequences_hold size disk volume ≡ true
+third_holds : (size : ℕ) (disk : ℕ → List ℕ) (volume : KeptSequence) → sequence_findings size disk volume ≡ [] → sequences_hold size disk volume ≡ true
 unfolding sequence_findings
 third_holds size disk volume = by_rule (sequences_hold size disk volume) _ where
-  by_rule : (b : Bool) (found : Found) → cond b [] (found ∷ []) ≡ [] → b ≡ true
+  by_rule : (b : Bool) (found : Finding) → cond b [] (found ∷ []) ≡ [] → b ≡ true
   by_rule true found e = refl
   by_rule false found e = absurd (cc)
 
@@ -160,7 +160,7 @@ or_true : (b : Bool) → (b || true) ≡ true
 or_true true = refl
 or_true false = refl
 
-all_good : (size blocks : ℕ) (disk : ℕ → List ℕ) (volume : Volume) (f : ℕ → Found)
+all_good : (size blocks : ℕ) (disk : ℕ → List ℕ) (volume : KeptSequence) (f : ℕ → Finding)
     → map f (bad_of disk volume (eligible size blocks volume)) ++ sequence_findings size disk volume ≡ [] → anchors_hold size blocks disk volume ≡ true
 unfolding anchors_hold
 all_good size blocks disk volume f e =
@@ -168,7 +168,7 @@ all_good size blocks disk volume f e =
     none_bad (λ place. is_good volume.anchor place (disk place)) (eligible size blocks volume) f _ e in
     ap (λ b. leb 2 (length (good_of disk volume (eligible size blocks volume))) || b) all ∙ or_true (leb 2 (length (good_of disk volume (eligible size blocks volume))))
 
-second_holds : (size blocks : ℕ) (disk : ℕ → List ℕ) (volume : Volume) → findings size blocks disk volume ≡ [] → anchors_hold size blocks disk volume ≡ true
+second_holds : (size blocks : ℕ) (disk : ℕ → List ℕ) (volume : KeptSequence) → findings size blocks disk volume ≡ [] → anchors_hold size blocks disk volume ≡ true
 unfolding findings anchor_findings
 second_holds size blocks disk volume e = by_rule (anchors_hold size blocks disk volume) refl e where
   by_rule : (b : Bool) → anchors_hold size blocks disk volume ≡ b → cond b [] (map (λ place. record {
@@ -180,11 +180,11 @@ second_holds size blocks disk volume e = by_rule (anchors_hold size blocks disk 
   by_rule true is f = is
   by_rule false is f = all_good size blocks disk volume _ f
 
-none_third : (size blocks : ℕ) (disk : ℕ → List ℕ) (volume : Volume) → findings size blocks disk volume ≡ [] → sequence_findings size disk volume ≡ []
+none_third : (size blocks : ℕ) (disk : ℕ → List ℕ) (volume : KeptSequence) → findings size blocks disk volume ≡ [] → sequence_findings size disk volume ≡ []
 unfolding findings
 none_third size blocks disk volume e = none_after (anchor_findings size blocks disk volume) (sequence_findings size disk volume) e
 
-pub broken : (size blocks : ℕ) (disk : ℕ → List ℕ) (volume : Volume) → findings size blocks disk volume ≡ [] → rules_hold size blocks disk volume ≡ true
+pub broken : (size blocks : ℕ) (disk : ℕ → List ℕ) (volume : KeptSequence) → findings size blocks disk volume ≡ [] → rules_hold size blocks disk volume ≡ true
 unfolding rules_hold
 broken size blocks disk volume e =
     and_from _ _ (second_holds size blocks disk volume e) (third_holds size disk volume (none_third size blocks disk volume e))

@@ -4,7 +4,7 @@ use Rattle.std.proofs.lemmas.Bool.{and_parts, and_from, ne_eqb, eq-eqb, cases_eq
 use Rattle.std.specs.Prelude.{is_none}
 use Rattle.std.specs.List.{list_all, filter}
 use Rattle.udf_volume_model.specs.Anchor.{Anchor, blocks_of, places, anchor_in}
-use Rattle.udf_volume_model.specs.Kept.{Volume, other as other_of, extent_of, opposite, limit_of, sequence_at, volume_by, volume_at, led_from, volume_in, or_else}
+use Rattle.udf_volume_model.specs.Kept.{KeptSequence, other as other_of, extent_of, opposite, limit_of, sequence_at, kept_sequence_by, kept_sequence_at, led_from, kept_sequence_in, or_else}
 use Rattle.udf_volume_model.specs.Areas.{is_outside}
 use Rattle.udf_volume_model.specs.Layout.{are_places_lawful, is_lawful, is_passed, earlier}
 use Rattle.udf_volume_model.specs.Rules.{ascending_places, is_eligible, is_good, eligible, anchors_hold, sequences_hold, agrees}
@@ -15,7 +15,7 @@ use Rattle.udf_volume_laws.proofs.Led.{IsMain, IsReserve, leads_none, same_seque
 use Rattle.udf_volume_laws.proofs.After.{IsOpened, Facts, facts, areas_in}
 
 -- the disks agree in what a volume is read from
-pub record AgreeOn (size blocks : ℕ) (disk other : ℕ → List ℕ) (volume : Volume) : Type 0 where
+pub record AgreeOn (size blocks : ℕ) (disk other : ℕ → List ℕ) (volume : KeptSequence) : Type 0 where
   pub main : (n : ℕ) → volume.anchor.main.start ≤ n → n < volume.anchor.main.start + blocks_of size volume.anchor.main → disk n ≡ other n
   pub reserve : (n : ℕ) → volume.anchor.reserve.start ≤ n → n < volume.anchor.reserve.start + blocks_of size volume.anchor.reserve → disk n ≡ other n
   pub at_places : (n : ℕ) → IsIn n (places blocks) → is_outside (areas_in size volume) n ≡ true → disk n ≡ other n
@@ -24,18 +24,18 @@ no_anchor : (o : Option Anchor) → is_none o ≡ true → o ≡ None
 no_anchor None e = refl
 no_anchor (Some a) e = absurd (cc)
 
-same_volume : (size : ℕ) (disk : ℕ → List ℕ) (volume : Volume) → IsMain size disk volume ⊎ IsReserve size disk volume
-    → volume_by volume.place volume.anchor (sequence_at size disk (limit_of size volume.anchor) volume.anchor.main) (sequence_at size disk (limit_of size volume.anchor) volume.anchor.reserve)
+same_volume : (size : ℕ) (disk : ℕ → List ℕ) (volume : KeptSequence) → IsMain size disk volume ⊎ IsReserve size disk volume
+    → kept_sequence_by volume.place volume.anchor (sequence_at size disk (limit_of size volume.anchor) volume.anchor.main) (sequence_at size disk (limit_of size volume.anchor) volume.anchor.reserve)
     ≡ Some volume
 same_volume size disk volume (inl m) =
-    ap (λ main. volume_by volume.place volume.anchor main (sequence_at size disk (limit_of size volume.anchor) volume.anchor.reserve)) m.1
+    ap (λ main. kept_sequence_by volume.place volume.anchor main (sequence_at size disk (limit_of size volume.anchor) volume.anchor.reserve)) m.1
     ∙ ap (λ w. Some (record { place = volume.place; anchor = volume.anchor; which = w; list = volume.list })) (sym m.0)
 same_volume size disk volume (inr m) =
-    ap (λ main. volume_by volume.place volume.anchor main (sequence_at size disk (limit_of size volume.anchor) volume.anchor.reserve)) m.1
-    ∙ ap (volume_by volume.place volume.anchor None) m.2
+    ap (λ main. kept_sequence_by volume.place volume.anchor main (sequence_at size disk (limit_of size volume.anchor) volume.anchor.reserve)) m.1
+    ∙ ap (kept_sequence_by volume.place volume.anchor None) m.2
     ∙ ap (λ w. Some (record { place = volume.place; anchor = volume.anchor; which = w; list = volume.list })) (sym m.0)
 
-module _ (size blocks : ℕ) (disk other : ℕ → List ℕ) (volume : Volume) (given : IsOpened size blocks disk volume)
+module _ (size blocks : ℕ) (disk other : ℕ → List ℕ) (volume : KeptSequence) (given : IsOpened size blocks disk volume)
     (agree : AgreeOn size blocks disk other volume) where
   known : Facts size blocks disk volume
   known = facts size blocks disk volume given
@@ -43,11 +43,11 @@ module _ (size blocks : ℕ) (disk other : ℕ → List ℕ) (volume : Volume) (
   place_leads : led_from size blocks other volume.place ≡ Some volume
   unfolding led_from
   place_leads =
-      ap (λ b. volume_at size other volume.place (anchor_in size blocks volume.place b)) (sym (agree.at_places volume.place known.member known.outside))
-      ∙ ap (volume_at size other volume.place) (anchor_from size blocks volume.place (disk volume.place) volume.anchor known.anchor)
-      ∙ ap (λ main. volume_by volume.place volume.anchor main (sequence_at size other (limit_of size volume.anchor) volume.anchor.reserve))
+      ap (λ b. kept_sequence_at size other volume.place (anchor_in size blocks volume.place b)) (sym (agree.at_places volume.place known.member known.outside))
+      ∙ ap (kept_sequence_at size other volume.place) (anchor_from size blocks volume.place (disk volume.place) volume.anchor known.anchor)
+      ∙ ap (λ main. kept_sequence_by volume.place volume.anchor main (sequence_at size other (limit_of size volume.anchor) volume.anchor.reserve))
       (sym (same_sequence size disk other (limit_of size volume.anchor) volume.anchor.main agree.main))
-      ∙ ap (volume_by volume.place volume.anchor (sequence_at size disk (limit_of size volume.anchor) volume.anchor.main))
+      ∙ ap (kept_sequence_by volume.place volume.anchor (sequence_at size disk (limit_of size volume.anchor) volume.anchor.main))
       (sym (same_sequence size disk other (limit_of size volume.anchor) volume.anchor.reserve agree.reserve))
       ∙ same_volume size disk volume known.side
 
@@ -63,17 +63,17 @@ module _ (size blocks : ℕ) (disk other : ℕ → List ℕ) (volume : Volume) (
       leads_none size blocks other n (no_anchor (anchor_in size blocks n (other n)) (and_parts (is_outside (areas_in size volume) n) (is_none (anchor_in size blocks n (other n))) e).1)
 
   reached : (xs : List ℕ) → ((n : ℕ) → IsIn n xs → IsIn n (places blocks)) → list_all (is_passed size blocks disk (areas_in size volume)) (earlier volume.place xs) ≡ true
-      → IsIn volume.place xs → (volume_in size blocks other xs ≡ Some volume) × (list_all (is_passed size blocks other (areas_in size volume)) (earlier volume.place xs) ≡ true)
-  unfolding volume_in earlier
+      → IsIn volume.place xs → (kept_sequence_in size blocks other xs ≡ Some volume) × (list_all (is_passed size blocks other (areas_in size volume)) (earlier volume.place xs) ≡ true)
+  unfolding kept_sequence_in earlier
   reached [] sub e i = absurd i
   reached (x ∷ xs) sub e i = by_here (reached xs (λ n j. sub n (inr j))) (cases_eq x volume.place) i where
     by_here : (list_all (is_passed size blocks disk (areas_in size volume)) (earlier volume.place xs) ≡ true → IsIn volume.place xs
-        → (volume_in size blocks other xs ≡ Some volume) × (list_all (is_passed size blocks other (areas_in size volume)) (earlier volume.place xs) ≡ true))
+        → (kept_sequence_in size blocks other xs ≡ Some volume) × (list_all (is_passed size blocks other (areas_in size volume)) (earlier volume.place xs) ≡ true))
         → (x ≡ volume.place) ⊎ (x ≡ volume.place → ⊥) → IsIn volume.place (x ∷ xs)
-        → (or_else (led_from size blocks other x) (volume_in size blocks other xs) ≡ Some volume)
+        → (or_else (led_from size blocks other x) (kept_sequence_in size blocks other xs) ≡ Some volume)
         × (list_all (is_passed size blocks other (areas_in size volume)) (cond (eqb x volume.place) [] (x ∷ earlier volume.place xs)) ≡ true)
     by_here rest (inl here) j = (
-      ap (λ o. or_else o (volume_in size blocks other xs)) (ap (led_from size blocks other) here ∙ place_leads),
+      ap (λ o. or_else o (kept_sequence_in size blocks other xs)) (ap (led_from size blocks other) here ∙ place_leads),
       ap (λ b. list_all (is_passed size blocks other (areas_in size volume)) (cond b [] (x ∷ earlier volume.place xs))) (eq-eqb _ _ here),
     )
     by_here rest (inr apart) (inl here) = absurd (apart (sym here))
@@ -83,7 +83,7 @@ module _ (size blocks : ℕ) (disk other : ℕ → List ℕ) (volume : Volume) (
         let parts = and_parts (is_passed size blocks disk (areas_in size volume) x) (list_all (is_passed size blocks disk (areas_in size volume)) (earlier volume.place xs)) past in
         let next = rest parts.1 later in
         let here = passed_stays x (sub x (inl refl)) parts.0 in (
-          ap (λ o. or_else o (volume_in size blocks other xs)) (none_there x here) ∙ next.0,
+          ap (λ o. or_else o (kept_sequence_in size blocks other xs)) (none_there x here) ∙ next.0,
           ap (λ b. list_all (is_passed size blocks other (areas_in size volume)) (cond b [] (x ∷ earlier volume.place xs))) (ne_eqb x volume.place apart) ∙ and_from _ _ here next.1,
         )
 

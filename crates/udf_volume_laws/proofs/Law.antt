@@ -4,7 +4,7 @@ use Rattle.std.proofs.lemmas.Bool.{and_parts, and_from, le-leb, or_right, eq-eqb
 use Rattle.std.specs.Prelude.{is_none}
 use Rattle.std.specs.List.{list_all, list_any, filter}
 use Rattle.udf_volume_model.specs.Anchor.{Anchor, places, anchor_in}
-use Rattle.udf_volume_model.specs.Kept.{Volume, Main, led_from, volume_in, or_else}
+use Rattle.udf_volume_model.specs.Kept.{KeptSequence, Main, led_from, kept_sequence_in, or_else}
 use Rattle.udf_volume_model.specs.Areas.{is_outside}
 use Rattle.udf_volume_model.specs.Layout.{are_places_lawful, is_lawful, is_passed, earlier}
 use Rattle.udf_volume_model.specs.Opened.{is_opened_by}
@@ -22,8 +22,8 @@ abbrev pub StandsEarlier : ℕ → ℕ → ℕ → Type 0
 StandsEarlier blocks before after = (after ≡ before) ⊎ (list_any (λ place. eqb place after) (earlier before (places blocks)) ≡ true)
 
 -- what the laws say of a disk afterwards
-pub record IsMended (size blocks : ℕ) (before after : Volume) (disk : ℕ → List ℕ) : Type 0 where
-  pub is : volume_in size blocks disk (places blocks) ≡ Some after
+pub record IsMended (size blocks : ℕ) (before after : KeptSequence) (disk : ℕ → List ℕ) : Type 0 where
+  pub is : kept_sequence_in size blocks disk (places blocks) ≡ Some after
   pub same_anchor : after.anchor ≡ before.anchor
   pub same_list : after.list ≡ before.list
   pub place : StandsEarlier blocks before.place after.place
@@ -36,11 +36,11 @@ no_anchor : (o : Option Anchor) → is_none o ≡ true → o ≡ None
 no_anchor None e = refl
 no_anchor (Some a) e = absurd (cc)
 
-module _ (size blocks : ℕ) (disk : ℕ → List ℕ) (volume : Volume) (given : IsOpened size blocks disk volume) where
+module _ (size blocks : ℕ) (disk : ℕ → List ℕ) (volume : KeptSequence) (given : IsOpened size blocks disk volume) where
   abbrev after : ℕ → List ℕ
   after n = look n (edits size blocks disk volume) (disk n)
 
-  abbrev pub volume_after : ℕ → Volume
+  abbrev pub volume_after : ℕ → KeptSequence
   volume_after place = record { place = place; anchor = volume.anchor; which = Main; list = volume.list }
 
   known : Facts size blocks disk volume
@@ -77,19 +77,19 @@ module _ (size blocks : ℕ) (disk : ℕ → List ℕ) (volume : Volume) (given 
       leads_none size blocks after n (no_anchor (anchor_in size blocks n (after n)) (and_parts (is_outside (areas_in size volume) n) (is_none (anchor_in size blocks n (after n))) e).1)
 
   reached : (xs : List ℕ) → list_all (is_passed size blocks after (areas_in size volume)) (earlier volume.place xs) ≡ true → IsIn volume.place xs
-      → volume_in size blocks after xs ≡ Some (volume_after volume.place)
-  unfolding volume_in earlier
+      → kept_sequence_in size blocks after xs ≡ Some (volume_after volume.place)
+  unfolding kept_sequence_in earlier
   reached [] e i = absurd i
   reached (x ∷ xs) e i = by_here (reached xs) (cases_eq x volume.place) i where
-    by_here : (list_all (is_passed size blocks after (areas_in size volume)) (earlier volume.place xs) ≡ true → IsIn volume.place xs → volume_in size blocks after xs ≡ Some (volume_after volume.place))
-        → (x ≡ volume.place) ⊎ (x ≡ volume.place → ⊥) → IsIn volume.place (x ∷ xs) → or_else (led_from size blocks after x) (volume_in size blocks after xs) ≡ Some (volume_after volume.place)
-    by_here rest (inl here) j = ap (λ o. or_else o (volume_in size blocks after xs)) (ap (led_from size blocks after) here ∙ place_leads)
+    by_here : (list_all (is_passed size blocks after (areas_in size volume)) (earlier volume.place xs) ≡ true → IsIn volume.place xs → kept_sequence_in size blocks after xs ≡ Some (volume_after volume.place))
+        → (x ≡ volume.place) ⊎ (x ≡ volume.place → ⊥) → IsIn volume.place (x ∷ xs) → or_else (led_from size blocks after x) (kept_sequence_in size blocks after xs) ≡ Some (volume_after volume.place)
+    by_here rest (inl here) j = ap (λ o. or_else o (kept_sequence_in size blocks after xs)) (ap (led_from size blocks after) here ∙ place_leads)
     by_here rest (inr apart) (inl here) = absurd (apart (sym here))
     by_here rest (inr apart) (inr later) =
         let past : list_all (is_passed size blocks after (areas_in size volume)) (x ∷ earlier volume.place xs) ≡ true =
         ap (λ b. list_all (is_passed size blocks after (areas_in size volume)) (cond b [] (x ∷ earlier volume.place xs))) (sym (ne_eqb x volume.place apart)) ∙ e in
         let parts = and_parts (is_passed size blocks after (areas_in size volume) x) (list_all (is_passed size blocks after (areas_in size volume)) (earlier volume.place xs)) past in
-        ap (λ o. or_else o (volume_in size blocks after xs)) (none_there x parts.0) ∙ rest parts.1 later
+        ap (λ o. or_else o (kept_sequence_in size blocks after xs)) (none_there x parts.0) ∙ rest parts.1 later
 
   -- the volume is opened afterwards
   opens : (n : ℕ) → is_outside (areas_in size volume) n ≡ true → list_all (is_passed size blocks after (areas_in size volume)) (earlier n (places blocks)) ≡ true
@@ -151,7 +151,7 @@ module _ (size blocks : ℕ) (disk : ℕ → List ℕ) (volume : Volume) (given 
   mends_first : (xs : List ℕ) → places blocks ≡ xs → anchors_hold size blocks disk volume ≡ false → IsHigh xs → IsIn volume.place xs
       → list_all (is_passed size blocks disk (areas_in size volume)) (earlier volume.place xs) ≡ true
       → (place : ℕ) × IsMended size blocks volume (volume_after place) after
-  unfolding volume_in earlier
+  unfolding kept_sequence_in earlier
   mends_first [] is broken high i e = absurd i
   mends_first (x ∷ xs) is broken high i e = (x, by_here (cases_eq x volume.place)) where
     none_before : list_all (is_passed size blocks after (areas_in size volume)) (earlier x (places blocks)) ≡ true
@@ -162,7 +162,7 @@ module _ (size blocks : ℕ) (disk : ℕ → List ℕ) (volume : Volume) (given 
     made : StandsEarlier blocks volume.place x → is_outside (areas_in size volume) x ≡ true → led_from size blocks after x ≡ Some (volume_after x)
         → IsMended size blocks volume (volume_after x) after
     made stands out l = record {
-      is = ap (volume_in size blocks after) is ∙ ap (λ o. or_else o (volume_in size blocks after xs)) l;
+      is = ap (kept_sequence_in size blocks after) is ∙ ap (λ o. or_else o (kept_sequence_in size blocks after xs)) l;
       same_anchor = refl;
       same_list = refl;
       place = stands;

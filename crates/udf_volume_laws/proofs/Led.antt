@@ -3,43 +3,43 @@ use Rattle.std.proofs.Common.{◌≡◌, ℕ, ◌+◌, ◌<◌, ◌≤◌, arith
 use Rattle.std.proofs.lemmas.Bool.{and_parts, leb-true, ltb-true}
 use Rattle.udf_volume_model.specs.Anchor.{Extent, Anchor, blocks_of, is_extent, anchor_in, names_extents}
 use Rattle.udf_volume_model.specs.Sequence.{Descriptor, view_of, views, listed}
-use Rattle.udf_volume_model.specs.Kept.{Volume, Main, Reserve, is_complete, has_id, limit_of, whole_by, sequence_at, volume_by, volume_at, led_from, or_else, volume_in}
+use Rattle.udf_volume_model.specs.Kept.{KeptSequence, Main, Reserve, is_complete, has_id, limit_of, whole_by, sequence_at, kept_sequence_by, kept_sequence_at, led_from, or_else, kept_sequence_in}
 use Rattle.udf_volume_laws.proofs.Walk.{Walks, walks, listed_as, same_said}
 use Rattle.udf_volume_laws.proofs.Members.{IsIn}
 
 -- which of the two sequences is the kept one
-abbrev pub IsMain : ℕ → (ℕ → List ℕ) → Volume → Type 0
+abbrev pub IsMain : ℕ → (ℕ → List ℕ) → KeptSequence → Type 0
 IsMain size disk volume =
     (volume.which ≡ Main) × (sequence_at size disk (limit_of size volume.anchor) volume.anchor.main ≡ Some volume.list)
 
-abbrev pub IsReserve : ℕ → (ℕ → List ℕ) → Volume → Type 0
+abbrev pub IsReserve : ℕ → (ℕ → List ℕ) → KeptSequence → Type 0
 IsReserve size disk volume =
     (volume.which ≡ Reserve)
     × (sequence_at size disk (limit_of size volume.anchor) volume.anchor.main ≡ None)
     × (sequence_at size disk (limit_of size volume.anchor) volume.anchor.reserve ≡ Some volume.list)
 
-pub record IsLed (size blocks : ℕ) (disk : ℕ → List ℕ) (place : ℕ) (volume : Volume) : Type 0 where
+pub record IsLed (size blocks : ℕ) (disk : ℕ → List ℕ) (place : ℕ) (volume : KeptSequence) : Type 0 where
   pub here : volume.place ≡ place
   pub anchor : anchor_in size blocks place (disk place) ≡ Some volume.anchor
   pub side : IsMain size disk volume ⊎ IsReserve size disk volume
 
-by_volume : (size blocks : ℕ) (disk : ℕ → List ℕ) (place : ℕ) (anchor : Anchor) (volume : Volume) (main reserve : Option (List Descriptor))
+by_volume : (size blocks : ℕ) (disk : ℕ → List ℕ) (place : ℕ) (anchor : Anchor) (volume : KeptSequence) (main reserve : Option (List Descriptor))
     → anchor_in size blocks place (disk place) ≡ Some anchor
     → sequence_at size disk (limit_of size anchor) anchor.main ≡ main
     → sequence_at size disk (limit_of size anchor) anchor.reserve ≡ reserve
-    → volume_by place anchor main reserve ≡ Some volume → IsLed size blocks disk place volume
+    → kept_sequence_by place anchor main reserve ≡ Some volume → IsLed size blocks disk place volume
 by_volume size blocks disk place anchor volume (Some list) reserve a m r e =
     let is : record { place = place; anchor = anchor; which = Main; list = list } ≡ volume = cc in
-    subst (λ (v : Volume). IsLed size blocks disk place v) is (record { here = refl; anchor = a; side = inl (refl, m) })
+    subst (λ (v : KeptSequence). IsLed size blocks disk place v) is (record { here = refl; anchor = a; side = inl (refl, m) })
 by_volume size blocks disk place anchor volume None (Some list) a m r e =
     let is : record { place = place; anchor = anchor; which = Reserve; list = list } ≡ volume = cc in
-    subst (λ (v : Volume). IsLed size blocks disk place v) is (record { here = refl; anchor = a; side = inr (refl, m, r) })
+    subst (λ (v : KeptSequence). IsLed size blocks disk place v) is (record { here = refl; anchor = a; side = inr (refl, m, r) })
 by_volume size blocks disk place anchor volume None None a m r e = absurd (cc)
 
-pub led : (size blocks : ℕ) (disk : ℕ → List ℕ) (place : ℕ) (volume : Volume) → led_from size blocks disk place ≡ Some volume → IsLed size blocks disk place volume
+pub led : (size blocks : ℕ) (disk : ℕ → List ℕ) (place : ℕ) (volume : KeptSequence) → led_from size blocks disk place ≡ Some volume → IsLed size blocks disk place volume
 unfolding led_from
 led size blocks disk place volume = by_anchor (anchor_in size blocks place (disk place)) refl where
-  by_anchor : (found : Option Anchor) → anchor_in size blocks place (disk place) ≡ found → volume_at size disk place found ≡ Some volume → IsLed size blocks disk place volume
+  by_anchor : (found : Option Anchor) → anchor_in size blocks place (disk place) ≡ found → kept_sequence_at size disk place found ≡ Some volume → IsLed size blocks disk place volume
   by_anchor None a e = absurd (cc)
   by_anchor (Some anchor) a e = by_volume size blocks disk place anchor volume _ _ a refl refl e
 
@@ -49,21 +49,21 @@ pub leads : (size blocks : ℕ) (disk : ℕ → List ℕ) (place : ℕ) (anchor 
     → led_from size blocks disk place ≡ Some (record { place = place; anchor = anchor; which = Main; list = list })
 unfolding led_from
 leads size blocks disk place anchor list a m =
-    ap (volume_at size disk place) a
-    ∙ ap (λ main. volume_by place anchor main (sequence_at size disk (limit_of size anchor) anchor.reserve)) m
+    ap (kept_sequence_at size disk place) a
+    ∙ ap (λ main. kept_sequence_by place anchor main (sequence_at size disk (limit_of size anchor) anchor.reserve)) m
 
 pub leads_none : (size blocks : ℕ) (disk : ℕ → List ℕ) (place : ℕ) → anchor_in size blocks place (disk place) ≡ None → led_from size blocks disk place ≡ None
 unfolding led_from
-leads_none size blocks disk place a = ap (volume_at size disk place) a
+leads_none size blocks disk place a = ap (kept_sequence_at size disk place) a
 
 -- the volume is that of one of the places
-pub found : (size blocks : ℕ) (disk : ℕ → List ℕ) (places : List ℕ) (volume : Volume) → volume_in size blocks disk places ≡ Some volume
+pub found : (size blocks : ℕ) (disk : ℕ → List ℕ) (places : List ℕ) (volume : KeptSequence) → kept_sequence_in size blocks disk places ≡ Some volume
     → (place : ℕ) × IsIn place places × IsLed size blocks disk place volume
-unfolding volume_in
+unfolding kept_sequence_in
 found size blocks disk [] volume e = absurd (cc)
 found size blocks disk (place ∷ places) volume e = by_first (found size blocks disk places volume) (led_from size blocks disk place) refl e where
-  by_first : (volume_in size blocks disk places ≡ Some volume → (at : ℕ) × IsIn at places × IsLed size blocks disk at volume)
-      → (first : Option Volume) → led_from size blocks disk place ≡ first → or_else first (volume_in size blocks disk places) ≡ Some volume
+  by_first : (kept_sequence_in size blocks disk places ≡ Some volume → (at : ℕ) × IsIn at places × IsLed size blocks disk at volume)
+      → (first : Option KeptSequence) → led_from size blocks disk place ≡ first → or_else first (kept_sequence_in size blocks disk places) ≡ Some volume
       → (at : ℕ) × IsIn at (place ∷ places) × IsLed size blocks disk at volume
   by_first rest None l f = let r = rest f in (r.0, inr r.1, r.2)
   by_first rest (Some first) l f = (place, inl refl, led size blocks disk place volume (l ∙ f))

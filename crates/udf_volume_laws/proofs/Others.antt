@@ -4,7 +4,7 @@ use Rattle.std.specs.List.{list_all, list_any}
 use Rattle.std.proofs.lemmas.Bool.{and_parts, and_from, or_left, or_right, eqb-true, eq-eqb, le-leb, lt-ltb, ltb-true, not-true}
 use Rattle.udf_model.specs.Image.{block_of, blocks_in}
 use Rattle.udf_volume_model.specs.Anchor.{places}
-use Rattle.udf_volume_model.specs.Kept.{Volume, volume_of}
+use Rattle.udf_volume_model.specs.Kept.{KeptSequence, kept_sequence_of}
 use Rattle.udf_volume_model.specs.Areas.{Area, area_of, covers}
 use Rattle.udf_volume_model.specs.Rules.{anchors_hold, sequences_hold, rules_hold}
 use Rattle.udf_volume_model.specs.Edits.{look, put_blocks, are_edits, is_off}
@@ -17,11 +17,11 @@ use Rattle.udf_volume_laws.proofs.After.{IsOpened}
 use Rattle.udf_volume_laws.proofs.Frame.{AgreeOn, frame, same_anchors, same_sequences}
 use Rattle.udf_volume_laws.proofs.Final.{held_of, block_length}
 
-made : (size : ℕ) (image other : List ℕ) (volume : Volume) → is_opened size image ≡ true → volume_of size image ≡ Some volume
+made : (size : ℕ) (image other : List ℕ) (volume : KeptSequence) → is_opened size image ≡ true → kept_sequence_of size image ≡ Some volume
     → IsOpened size (blocks_in size other) (block_of size other) volume
     → anchors_hold size (blocks_in size image) (block_of size image) volume ≡ anchors_hold size (blocks_in size other) (block_of size other) volume
     → sequences_hold size (block_of size image) volume ≡ sequences_hold size (block_of size other) volume → IsUnmoved size image other
-unfolding volume_of is_opened is_volume_unbroken rules_hold
+unfolding kept_sequence_of is_opened is_volume_unbroken rules_hold
 made size image other volume opened is a second third = record {
   volume = a.is ∙ sym is;
   opened = and_from _ _ (lt-ltb _ _ a.small) (ap (is_opened_by size (blocks_in size other) (block_of size other)) a.is ∙ a.opened) ∙ sym opened;
@@ -41,7 +41,7 @@ named n [] i = absurd i
 named n (x ∷ xs) (inl e) = or_left _ _ (eq-eqb _ _ (sym e))
 named n (x ∷ xs) (inr i) = or_right _ _ (named n xs i)
 
-agreed : (size blocks : ℕ) (disk other : ℕ → List ℕ) (volume : Volume) → ((n : ℕ) → is_read size blocks volume n ≡ true → disk n ≡ other n) → AgreeOn size blocks disk other volume
+agreed : (size blocks : ℕ) (disk other : ℕ → List ℕ) (volume : KeptSequence) → ((n : ℕ) → is_read size blocks volume n ≡ true → disk n ≡ other n) → AgreeOn size blocks disk other volume
 unfolding is_read
 agreed size blocks disk other volume h = record {
   main = λ n l k. h n (or_left _ _ (covered (area_of size volume.anchor.main) n l k));
@@ -49,7 +49,7 @@ agreed size blocks disk other volume h = record {
   at_places = λ n i e. h n (or_right _ _ (or_right _ _ (and_from _ _ (named n (places blocks) i) e)));
 }
 
-pub unmoved : (size : ℕ) (image other : List ℕ) (volume : Volume) → 512 ≤ size → is_opened size image ≡ true → volume_of size image ≡ Some volume
+pub unmoved : (size : ℕ) (image other : List ℕ) (volume : KeptSequence) → 512 ≤ size → is_opened size image ≡ true → kept_sequence_of size image ≡ Some volume
     → length other ≡ length image
     → ((n : ℕ) → is_read size (blocks_in size image) volume n ≡ true → block_of size other n ≡ block_of size image n) → IsUnmoved size image other
 unmoved size image other volume large a is long same =
@@ -90,7 +90,7 @@ put_block_is size image edits n e = block_after size edits image n (within size 
 pub look_off : (n : ℕ) (edits : List (ℕ × List ℕ)) (block : List ℕ) → is_off n edits ≡ true → look n edits block ≡ block
 look_off n edits block e = off n edits block (nowhere n edits e)
 
-pub elsewhere : (size : ℕ) (image : List ℕ) (volume : Volume) (edits : List (ℕ × List ℕ)) → 512 ≤ size → is_opened size image ≡ true → volume_of size image ≡ Some volume
+pub elsewhere : (size : ℕ) (image : List ℕ) (volume : KeptSequence) (edits : List (ℕ × List ℕ)) → 512 ≤ size → is_opened size image ≡ true → kept_sequence_of size image ≡ Some volume
     → are_edits size (blocks_in size image) edits ≡ true → ((n : ℕ) → is_read size (blocks_in size image) volume n ≡ true → is_off n edits ≡ true)
     → IsUnmoved size image (put_blocks size edits image)
 elsewhere size image volume edits large a is fit apart =

@@ -2,7 +2,7 @@
 use Rattle.std.proofs.Common.{◌≡◌, ℕ, ◌+◌, ◌<◌, ◌≤◌, arith, sym, ◌∙◌, ap, subst, List, true, false, Some, inl, inr, ◌⊎◌}
 use Rattle.udf_volume_model.specs.Sequence.{Descriptor}
 use Rattle.udf_volume_model.specs.Anchor.{Extent, Anchor, blocks_of, names_extents}
-use Rattle.udf_volume_model.specs.Kept.{Which, Volume, extent_of, opposite, kept, other, limit_of, sequence_at}
+use Rattle.udf_volume_model.specs.Kept.{Which, KeptSequence, extent_of, opposite, kept, other, limit_of, sequence_at}
 use Rattle.udf_volume_model.specs.Areas.{areas_of, partition_area, covers, is_outside}
 use Rattle.udf_volume_model.specs.Layout.{are_lawful}
 use Rattle.udf_volume_model.specs.Rules.{is_eligible}
@@ -56,7 +56,7 @@ pair_reserve size blocks anchor list within lawful =
       other_out = λ n e. (far size anchor list n e).first;
     }
 
-pub pair : (size blocks : ℕ) (disk : ℕ → List ℕ) (place : ℕ) (volume : Volume) → IsLed size blocks disk place volume → names_extents size blocks volume.anchor ≡ true
+pub pair : (size blocks : ℕ) (disk : ℕ → List ℕ) (place : ℕ) (volume : KeptSequence) → IsLed size blocks disk place volume → names_extents size blocks volume.anchor ≡ true
     → are_lawful size blocks volume.list (areas_of size volume.anchor volume.list) ≡ true
     → IsPair size blocks volume.anchor volume.list (kept volume) (other volume)
 pair size blocks disk place volume l within lawful = by_side l.side where
@@ -68,7 +68,7 @@ pair size blocks disk place volume l within lawful = by_side l.side where
       subst (λ (w : Which). IsPair size blocks volume.anchor volume.list (extent_of w volume.anchor) (extent_of (opposite w) volume.anchor)) (sym m.0)
       (pair_reserve size blocks volume.anchor volume.list within lawful)
 
-pub kept_sequence : (size : ℕ) (disk : ℕ → List ℕ) (volume : Volume) → IsMain size disk volume ⊎ IsReserve size disk volume
+pub kept_sequence : (size : ℕ) (disk : ℕ → List ℕ) (volume : KeptSequence) → IsMain size disk volume ⊎ IsReserve size disk volume
     → sequence_at size disk (limit_of size volume.anchor) (kept volume) ≡ Some volume.list
 kept_sequence size disk volume (inl m) = ap (λ w. sequence_at size disk (limit_of size volume.anchor) (extent_of w volume.anchor)) m.0 ∙ m.1
 kept_sequence size disk volume (inr m) = ap (λ w. sequence_at size disk (limit_of size volume.anchor) (extent_of w volume.anchor)) m.0 ∙ m.2

@@ -12,7 +12,7 @@ use Rattle.udf_model.proofs.Written.{same_number}
 use Rattle.udf_volume_model.specs.Sequence.{Descriptor, view_of, is_listed}
 use Rattle.udf_volume_model.specs.Anchor.{places, places_by}
 use Rattle.udf_volume_model.specs.Size.{has_size, found_size}
-use Rattle.udf_volume_model.specs.Kept.{Volume, kept, other, volume_of}
+use Rattle.udf_volume_model.specs.Kept.{KeptSequence, kept, other, kept_sequence_of}
 use Rattle.udf_volume_model.specs.Areas.{is_outside}
 use Rattle.udf_volume_model.specs.Layout.{earlier, is_passed}
 use Rattle.udf_volume_model.specs.Rules.{is_eligible, anchors_hold, sequences_hold}
@@ -92,7 +92,7 @@ first_place blocks many = by_one (cases_Bool (blocks - 1 == 256)) (cases_Bool (b
        ∙ ap (λ (t : Bool). cond t (256 ∷ 0 ∷ []) (cond (blocks - 1 == 512) (256 ∷ 512 ∷ []) (256 ∷ (blocks - 1) ∷ ((blocks - 1) - 256) ∷ []))) a
        ∙ ap (λ (t : Bool). cond t (256 ∷ 512 ∷ []) (256 ∷ (blocks - 1) ∷ ((blocks - 1) - 256) ∷ [])) b)
 
-module _ (size blocks : ℕ) (disk : ℕ → List ℕ) (volume : Volume) (held : IsOpened size blocks disk volume) where
+module _ (size blocks : ℕ) (disk : ℕ → List ℕ) (volume : KeptSequence) (held : IsOpened size blocks disk volume) where
   known : Facts size blocks disk volume
   known = facts size blocks disk volume held
 
@@ -163,7 +163,7 @@ module _ (size : ℕ) (image : List ℕ) (wide : 512 ≤ size) (opened : is_open
   long = length_kept size image wide
 
   parts : (blocks_in size image < 2 ^ 32)
-      × ((volume : Volume) × (volume_of size image ≡ Some volume)
+      × ((volume : KeptSequence) × (kept_sequence_of size image ≡ Some volume)
       × (is_opened_by size (blocks_in size image) (block_of size image) (Some volume) ≡ true))
   parts = opened_parts size image opened
 

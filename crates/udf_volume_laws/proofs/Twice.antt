@@ -3,7 +3,7 @@ use Rattle.std.proofs.Common.{◌≡◌, ℕ, ◌≤◌, sym, ◌∙◌, ap, Lis
 use Rattle.std.proofs.lemmas.Bool.{and_parts, cases_Bool}
 use Rattle.udf_model.specs.Tag.{relocated}
 use Rattle.udf_model.specs.Image.{block_of, blocks_in}
-use Rattle.udf_volume_model.specs.Kept.{Volume, kept, other, volume_of}
+use Rattle.udf_volume_model.specs.Kept.{KeptSequence, kept, other, kept_sequence_of}
 use Rattle.udf_volume_model.specs.Rules.{eligible, bad_of, anchors_hold, sequences_hold, rules_hold}
 use Rattle.udf_volume_model.specs.Edits.{put_blocks}
 use Rattle.udf_volume_model.specs.Mended.{logical_block, copies, sequence_edits, anchor_edits, edits}
@@ -12,7 +12,7 @@ use Rattle.udf_volume_laws.proofs.Puts.{chosen}
 use Rattle.udf_volume_laws.proofs.Final.{opened_parts, mended_is, mended_image}
 
 -- where no rule is broken, nothing is put
-nothing_put : (size : ℕ) (image : List ℕ) (volume : Volume) → is_volume_unbroken_by size image (Some volume) ≡ true
+nothing_put : (size : ℕ) (image : List ℕ) (volume : KeptSequence) → is_volume_unbroken_by size image (Some volume) ≡ true
     → mended_by size image (Some volume) ≡ image
 unfolding rules_hold edits sequence_edits anchor_edits put_blocks
 nothing_put size image volume e =
@@ -29,7 +29,7 @@ opened_stays size image a e =
 
 pub unopened : (size : ℕ) (image : List ℕ) → is_opened size image ≡ false → volume_mended size image ≡ image
 unfolding volume_mended
-unopened size image e = ap (λ b. cond b (mended_by size image (volume_of size image)) image) e
+unopened size image e = ap (λ b. cond b (mended_by size image (kept_sequence_of size image)) image) e
 
 pub stays : (size : ℕ) (image : List ℕ) → is_volume_unbroken size image ≡ true → volume_mended size image ≡ image
 stays size image e = by_opening (cases_Bool (is_opened size image)) where

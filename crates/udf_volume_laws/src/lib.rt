@@ -8,7 +8,7 @@ ghost use Rattle.udf_model.specs.Image.{block_of, blocks_in};
 ghost use Rattle.udf_volume_model.specs.Sequence.{Descriptor};
 ghost use Rattle.udf_volume_model.specs.Prevailing.{is_of, prevailing, prevailing_index, Prevails};
 ghost use Rattle.udf_volume_model.specs.Size.{found_size};
-ghost use Rattle.udf_volume_model.specs.Kept.{Volume, volume_of};
+ghost use Rattle.udf_volume_model.specs.Kept.{KeptSequence, kept_sequence_of};
 ghost use Rattle.udf_volume_model.specs.Areas.{partition_area, covers};
 ghost use Rattle.udf_volume_model.specs.Rules.{findings, rules_hold};
 ghost use Rattle.udf_volume_model.specs.Order.{Ascends};
@@ -37,11 +37,11 @@ pub fn prevailing_law()
 
 /// Nothing is found exactly where no rule is broken, and findings stand in the order of rules, then of sectors.
 pub fn findings_law()
-    ensures unbroken { (size blocks : ℕ) (disk : ℕ → List ℕ) (volume : Volume) → rules_hold size blocks disk volume ≡ true
+    ensures unbroken { (size blocks : ℕ) (disk : ℕ → List ℕ) (volume : KeptSequence) → rules_hold size blocks disk volume ≡ true
         → findings size blocks disk volume ≡ [] }
-    ensures broken { (size blocks : ℕ) (disk : ℕ → List ℕ) (volume : Volume) → findings size blocks disk volume ≡ []
+    ensures broken { (size blocks : ℕ) (disk : ℕ → List ℕ) (volume : KeptSequence) → findings size blocks disk volume ≡ []
         → rules_hold size blocks disk volume ≡ true }
-    ensures order { (size blocks : ℕ) (disk : ℕ → List ℕ) (volume : Volume) → Ascends (findings size blocks disk volume) }
+    ensures order { (size blocks : ℕ) (disk : ℕ → List ℕ) (volume : KeptSequence) → Ascends (findings size blocks disk volume) }
 {}
 
 /// Blocks that are put stand there, the first of a sector; every other block and the length stay.
@@ -61,7 +61,7 @@ pub fn mend_law()
     ensures opened { (size : ℕ) (image : List ℕ) → 512 ≤ size → is_opened size image ≡ true → is_opened size (volume_mended size image) ≡ true }
     ensures unbroken { (size : ℕ) (image : List ℕ) → 512 ≤ size → is_opened size image ≡ true → is_volume_unbroken size (volume_mended size image) ≡ true }
     ensures volume { (size : ℕ) (image : List ℕ) → 512 ≤ size → is_opened size image ≡ true
-        → IsSameVolume size (blocks_in size image) (volume_of size image) (volume_of size (volume_mended size image)) }
+        → IsSameVolume size (blocks_in size image) (kept_sequence_of size image) (kept_sequence_of size (volume_mended size image)) }
     ensures again { (size : ℕ) (image : List ℕ) → 512 ≤ size → volume_mended size (volume_mended size image) ≡ volume_mended size image }
     ensures still { (size : ℕ) (image : List ℕ) → is_volume_unbroken size image ≡ true → volume_mended size image ≡ image }
     ensures differs { (size : ℕ) (image : List ℕ) → 512 ≤ size → is_opened size image ≡ true → is_volume_unbroken size image ≡ false
@@ -74,14 +74,14 @@ pub fn mend_law()
 /// What the mends write: the blocks of the edits, none of which is a block of the partition, a sealed one or one past the
 /// whole blocks of the image.
 pub fn written_law()
-    ensures blocks { (size : ℕ) (image : List ℕ) (volume : Volume) (n : ℕ) → 512 ≤ size → is_opened size image ≡ true
-        → volume_of size image ≡ Some volume
+    ensures blocks { (size : ℕ) (image : List ℕ) (volume : KeptSequence) (n : ℕ) → 512 ≤ size → is_opened size image ≡ true
+        → kept_sequence_of size image ≡ Some volume
         → block_of size (volume_mended size image) n ≡ look n (edits size (blocks_in size image) (block_of size image) volume) (block_of size image n) }
-    ensures partition { (size : ℕ) (image : List ℕ) (volume : Volume) (n : ℕ) → 512 ≤ size → is_opened size image ≡ true
-        → volume_of size image ≡ Some volume → covers (partition_area volume.list) n ≡ true
+    ensures partition { (size : ℕ) (image : List ℕ) (volume : KeptSequence) (n : ℕ) → 512 ≤ size → is_opened size image ≡ true
+        → kept_sequence_of size image ≡ Some volume → covers (partition_area volume.list) n ≡ true
         → block_of size (volume_mended size image) n ≡ block_of size image n }
-    ensures sealed { (size : ℕ) (image : List ℕ) (volume : Volume) (n : ℕ) → 512 ≤ size → is_opened size image ≡ true
-        → volume_of size image ≡ Some volume → is_sealed volume n ≡ true
+    ensures sealed { (size : ℕ) (image : List ℕ) (volume : KeptSequence) (n : ℕ) → 512 ≤ size → is_opened size image ≡ true
+        → kept_sequence_of size image ≡ Some volume → is_sealed volume n ≡ true
         → block_of size (volume_mended size image) n ≡ block_of size image n }
     ensures past { (size : ℕ) (image : List ℕ) (n : ℕ) → 512 ≤ size → blocks_in size image ≤ n
         → block_of size (volume_mended size image) n ≡ block_of size image n }
@@ -90,12 +90,12 @@ pub fn written_law()
 /// A volume, its refusals and its rules are read from the blocks of both sequence extents and from the places outside
 /// its areas: an image that agrees there has the same, and so has the image with blocks put elsewhere.
 pub fn frame_law()
-    ensures agree { (size : ℕ) (image other : List ℕ) (volume : Volume) → 512 ≤ size → is_opened size image ≡ true
-        → volume_of size image ≡ Some volume → length other ≡ length image
+    ensures agree { (size : ℕ) (image other : List ℕ) (volume : KeptSequence) → 512 ≤ size → is_opened size image ≡ true
+        → kept_sequence_of size image ≡ Some volume → length other ≡ length image
         → ((n : ℕ) → is_read size (blocks_in size image) volume n ≡ true → block_of size other n ≡ block_of size image n)
         → IsUnmoved size image other }
-    ensures elsewhere { (size : ℕ) (image : List ℕ) (volume : Volume) (edits : List (ℕ × List ℕ)) → 512 ≤ size → is_opened size image ≡ true
-        → volume_of size image ≡ Some volume → are_edits size (blocks_in size image) edits ≡ true
+    ensures elsewhere { (size : ℕ) (image : List ℕ) (volume : KeptSequence) (edits : List (ℕ × List ℕ)) → 512 ≤ size → is_opened size image ≡ true
+        → kept_sequence_of size image ≡ Some volume → are_edits size (blocks_in size image) edits ≡ true
         → ((n : ℕ) → is_read size (blocks_in size image) volume n ≡ true → is_off n edits ≡ true)
         → IsUnmoved size image (put_blocks size edits image) }
 {}

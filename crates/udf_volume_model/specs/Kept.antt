@@ -11,7 +11,7 @@ pub data Which : Type 0 where
   Reserve : Which
 
 -- The place of the kept anchor, its extents, which of its sequences is kept, and the descriptors of that one.
-pub record Volume : Type 0 where
+pub record KeptSequence : Type 0 where
   pub place : ℕ
   pub anchor : Anchor
   pub which : Which
@@ -26,11 +26,11 @@ opposite Main = Reserve
 opposite Reserve = Main
 
 -- the extent of the kept sequence, and that of the other one
-abbrev pub kept : Volume → Extent
-kept volume = extent_of volume.which volume.anchor
+abbrev pub kept : KeptSequence → Extent
+kept sequence = extent_of sequence.which sequence.anchor
 
-abbrev pub other : Volume → Extent
-other volume = extent_of (opposite volume.which) volume.anchor
+abbrev pub other : KeptSequence → Extent
+other sequence = extent_of (opposite sequence.which) sequence.anchor
 
 unfoldable pub has_id : ℕ → List Descriptor → Bool
 has_id id list = list_any (λ descriptor. descriptor.id == id) list
@@ -51,35 +51,35 @@ limit_of size anchor = min (blocks_of size anchor.main) (blocks_of size anchor.r
 unfoldable pub sequence_at : ℕ → (ℕ → List ℕ) → ℕ → Extent → Option (List Descriptor)
 sequence_at size disk limit extent = whole_by limit (listed (views disk extent.start (blocks_of size extent)))
 
-abbrev pub volume_by : ℕ → Anchor → Option (List Descriptor) → Option (List Descriptor) → Option Volume
-volume_by place anchor (Some list) reserve = Some (record { place = place; anchor = anchor; which = Main; list = list })
-volume_by place anchor None (Some list) = Some (record { place = place; anchor = anchor; which = Reserve; list = list })
-volume_by place anchor None None = None
+abbrev pub kept_sequence_by : ℕ → Anchor → Option (List Descriptor) → Option (List Descriptor) → Option KeptSequence
+kept_sequence_by place anchor (Some list) reserve = Some (record { place = place; anchor = anchor; which = Main; list = list })
+kept_sequence_by place anchor None (Some list) = Some (record { place = place; anchor = anchor; which = Reserve; list = list })
+kept_sequence_by place anchor None None = None
 
-abbrev pub volume_at : ℕ → (ℕ → List ℕ) → ℕ → Option Anchor → Option Volume
-volume_at size disk place None = None
-volume_at size disk place (Some anchor) =
-    volume_by place anchor
+abbrev pub kept_sequence_at : ℕ → (ℕ → List ℕ) → ℕ → Option Anchor → Option KeptSequence
+kept_sequence_at size disk place None = None
+kept_sequence_at size disk place (Some anchor) =
+    kept_sequence_by place anchor
     (sequence_at size disk (limit_of size anchor) anchor.main)
     (sequence_at size disk (limit_of size anchor) anchor.reserve)
 
--- the volume to which an anchor at this place leads
-unfoldable pub led_from : ℕ → ℕ → (ℕ → List ℕ) → ℕ → Option Volume
-led_from size blocks disk place = volume_at size disk place (anchor_in size blocks place (disk place))
+-- the kept sequence to which an anchor at this place leads
+unfoldable pub led_from : ℕ → ℕ → (ℕ → List ℕ) → ℕ → Option KeptSequence
+led_from size blocks disk place = kept_sequence_at size disk place (anchor_in size blocks place (disk place))
 
-abbrev pub or_else : Option Volume → Option Volume → Option Volume
+abbrev pub or_else : Option KeptSequence → Option KeptSequence → Option KeptSequence
 or_else None rest = rest
-or_else (Some volume) rest = Some volume
+or_else (Some sequence) rest = Some sequence
 
--- the first of these places that leads to a volume
-unfoldable pub volume_in : ℕ → ℕ → (ℕ → List ℕ) → List ℕ → Option Volume
-volume_in size blocks disk [] = None
-volume_in size blocks disk (place ∷ rest) = or_else (led_from size blocks disk place) (volume_in size blocks disk rest)
+-- that of the first of these places that leads to one
+unfoldable pub kept_sequence_in : ℕ → ℕ → (ℕ → List ℕ) → List ℕ → Option KeptSequence
+kept_sequence_in size blocks disk [] = None
+kept_sequence_in size blocks disk (place ∷ rest) = or_else (led_from size blocks disk place) (kept_sequence_in size blocks disk rest)
 
 -- some place of these has a whole anchor
 unfoldable pub has_anchor : ℕ → ℕ → (ℕ → List ℕ) → List ℕ → Bool
 has_anchor size blocks disk list = list_any (λ place. is_some (anchor_in size blocks place (disk place))) list
 
--- the volume of an image
-unfoldable pub volume_of : ℕ → List ℕ → Option Volume
-volume_of size image = volume_in size (blocks_in size image) (block_of size image) (places (blocks_in size image))
+-- the kept sequence of an image
+unfoldable pub kept_sequence_of : ℕ → List ℕ → Option KeptSequence
+kept_sequence_of size image = kept_sequence_in size (blocks_in size image) (block_of size image) (places (blocks_in size image))

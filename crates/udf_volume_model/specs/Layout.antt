@@ -4,7 +4,7 @@ use Rattle.std.specs.List.{list_all}
 use Rattle.udf_volume_model.specs.Sequence.{Descriptor}
 use Rattle.udf_volume_model.specs.Prevailing.{number_in}
 use Rattle.udf_volume_model.specs.Anchor.{blocks_for, places, anchor_in}
-use Rattle.udf_volume_model.specs.Kept.{Volume}
+use Rattle.udf_volume_model.specs.Kept.{KeptSequence}
 use Rattle.udf_volume_model.specs.Stated.{partition}
 use Rattle.udf_volume_model.specs.Areas.{Area, partition_area, areas_of, is_outside}
 
@@ -55,7 +55,7 @@ unfoldable pub are_places_lawful : ℕ → ℕ → (ℕ → List ℕ) → ℕ �
 are_places_lawful size blocks disk kept areas =
     is_outside areas kept && list_all (is_passed size blocks disk areas) (earlier kept (places blocks))
 
-unfoldable pub is_lawful : ℕ → ℕ → (ℕ → List ℕ) → Volume → Bool
-is_lawful size blocks disk volume =
-    are_lawful size blocks volume.list (areas_of size volume.anchor volume.list)
-    && are_places_lawful size blocks disk volume.place (areas_of size volume.anchor volume.list)
+unfoldable pub is_lawful : ℕ → ℕ → (ℕ → List ℕ) → KeptSequence → Bool
+is_lawful size blocks disk sequence =
+    are_lawful size blocks sequence.list (areas_of size sequence.anchor sequence.list)
+    && are_places_lawful size blocks disk sequence.place (areas_of size sequence.anchor sequence.list)

@@ -2,7 +2,7 @@
 use Rattle.std.specs.Prelude.{ℕ, zero, suc, Option, Some, None, ◌+◌, ◌-◌, if◌then◌else◌, List, [], ◌∷◌, ◌++◌, length, map, replicate, slice_index}
 use Rattle.udf_model.specs.Tag.{whole_id, is_id, relocated, retagged}
 use Rattle.udf_volume_model.specs.Prevailing.{prevailing_index}
-use Rattle.udf_volume_model.specs.Kept.{Volume, kept, other}
+use Rattle.udf_volume_model.specs.Kept.{KeptSequence, kept, other}
 use Rattle.udf_volume_model.specs.Rules.{eligible, bad_of, anchors_hold, sequences_hold}
 
 -- the block of the prevailing logical volume descriptor
@@ -10,8 +10,8 @@ abbrev pub block_by : (ℕ → List ℕ) → ℕ → Option ℕ → List ℕ
 block_by disk start None = []
 block_by disk start (Some index) = disk (start + index)
 
-unfoldable pub logical_block : (ℕ → List ℕ) → Volume → List ℕ
-logical_block disk volume = block_by disk (kept volume).start (prevailing_index 6 [] volume.list)
+unfoldable pub logical_block : (ℕ → List ℕ) → KeptSequence → List ℕ
+logical_block disk sequence = block_by disk (kept sequence).start (prevailing_index 6 [] sequence.list)
 
 -- a terminating descriptor (3/10.9) with the version and the serial number of a block's tag, its CRC over 496 bytes
 unfoldable pub terminator : ℕ → ℕ → List ℕ → List ℕ
@@ -29,16 +29,16 @@ copies size disk like from to zero = (to, end_block size to (disk from) like) �
 copies size disk like from to (suc count) = (to, relocated to (disk from)) ∷ copies size disk like (from + 1) (to + 1) count
 
 -- where the rule on sequences is broken, the kept sequence is copied to the other extent
-unfoldable pub sequence_edits : ℕ → (ℕ → List ℕ) → Volume → List (ℕ × List ℕ)
-sequence_edits size disk volume =
-    if sequences_hold size disk volume then []
-    else copies size disk (logical_block disk volume) (kept volume).start (other volume).start (length volume.list)
+unfoldable pub sequence_edits : ℕ → (ℕ → List ℕ) → KeptSequence → List (ℕ × List ℕ)
+sequence_edits size disk sequence =
+    if sequences_hold size disk sequence then []
+    else copies size disk (logical_block disk sequence) (kept sequence).start (other sequence).start (length sequence.list)
 
 -- where the rule on anchors is broken, each eligible place that is not good gets the kept anchor, relocated
-unfoldable pub anchor_edits : ℕ → ℕ → (ℕ → List ℕ) → Volume → List (ℕ × List ℕ)
-anchor_edits size blocks disk volume =
-    if anchors_hold size blocks disk volume then []
-    else map (λ place. (place, relocated place (disk volume.place))) (bad_of disk volume (eligible size blocks volume))
+unfoldable pub anchor_edits : ℕ → ℕ → (ℕ → List ℕ) → KeptSequence → List (ℕ × List ℕ)
+anchor_edits size blocks disk sequence =
+    if anchors_hold size blocks disk sequence then []
+    else map (λ place. (place, relocated place (disk sequence.place))) (bad_of disk sequence (eligible size blocks sequence))
 
-unfoldable pub edits : ℕ → ℕ → (ℕ → List ℕ) → Volume → List (ℕ × List ℕ)
-edits size blocks disk volume = sequence_edits size disk volume ++ anchor_edits size blocks disk volume
+unfoldable pub edits : ℕ → ℕ → (ℕ → List ℕ) → KeptSequence → List (ℕ × List ℕ)
+edits size blocks disk sequence = sequence_edits size disk sequence ++ anchor_edits size blocks disk sequence

@@ -3,7 +3,7 @@ use Rattle.std.specs.Prelude.{ℕ, Bool, false, Option, Some, None, not, ◌&&�
 use Rattle.std.specs.List.{range_with_len}
 use Rattle.std.specs.Str.{bytes_eq}
 use Rattle.udf_model.specs.Image.{block_of, blocks_in}
-use Rattle.udf_volume_model.specs.Kept.{Volume, kept, volume_of}
+use Rattle.udf_volume_model.specs.Kept.{KeptSequence, kept, kept_sequence_of}
 use Rattle.udf_volume_model.specs.Areas.{Area, covers}
 use Rattle.udf_volume_model.specs.Profile.{is_profile, is_protected}
 use Rattle.udf_volume_model.specs.Layout.{is_lawful}
@@ -11,39 +11,39 @@ use Rattle.udf_volume_model.specs.Rules.{rules_hold}
 use Rattle.udf_volume_model.specs.Edits.{put_blocks}
 use Rattle.udf_volume_model.specs.Mended.{edits}
 
-abbrev pub is_opened_by : ℕ → ℕ → (ℕ → List ℕ) → Option Volume → Bool
+abbrev pub is_opened_by : ℕ → ℕ → (ℕ → List ℕ) → Option KeptSequence → Bool
 is_opened_by size blocks disk None = false
-is_opened_by size blocks disk (Some volume) = is_profile size volume.list && is_lawful size blocks disk volume
+is_opened_by size blocks disk (Some sequence) = is_profile size sequence.list && is_lawful size blocks disk sequence
 
 -- a volume is opened: no refusal of its description applies
 unfoldable pub is_opened : ℕ → List ℕ → Bool
 is_opened size image =
     nat_lt (blocks_in size image) 4294967296
-    && is_opened_by size (blocks_in size image) (block_of size image) (volume_of size image)
+    && is_opened_by size (blocks_in size image) (block_of size image) (kept_sequence_of size image)
 
-abbrev pub is_protected_by : Option Volume → Bool
+abbrev pub is_protected_by : Option KeptSequence → Bool
 is_protected_by None = false
-is_protected_by (Some volume) = is_protected volume.list
+is_protected_by (Some sequence) = is_protected sequence.list
 
 -- the descriptors of the kept sequence say that the volume is not to be written
 unfoldable pub is_protected_image : ℕ → List ℕ → Bool
-is_protected_image size image = is_protected_by (volume_of size image)
+is_protected_image size image = is_protected_by (kept_sequence_of size image)
 
-abbrev pub mended_by : ℕ → List ℕ → Option Volume → List ℕ
+abbrev pub mended_by : ℕ → List ℕ → Option KeptSequence → List ℕ
 mended_by size image None = image
-mended_by size image (Some volume) = put_blocks size (edits size (blocks_in size image) (block_of size image) volume) image
+mended_by size image (Some sequence) = put_blocks size (edits size (blocks_in size image) (block_of size image) sequence) image
 
 -- the image with each structure of its volume that breaks a rule mended; an image without a volume has no such structure
 unfoldable pub volume_mended : ℕ → List ℕ → List ℕ
-volume_mended size image = if is_opened size image then mended_by size image (volume_of size image) else image
+volume_mended size image = if is_opened size image then mended_by size image (kept_sequence_of size image) else image
 
-abbrev pub is_volume_unbroken_by : ℕ → List ℕ → Option Volume → Bool
+abbrev pub is_volume_unbroken_by : ℕ → List ℕ → Option KeptSequence → Bool
 is_volume_unbroken_by size image None = false
-is_volume_unbroken_by size image (Some volume) = rules_hold size (blocks_in size image) (block_of size image) volume
+is_volume_unbroken_by size image (Some sequence) = rules_hold size (blocks_in size image) (block_of size image) sequence
 
 -- there is a kept sequence, and the rules hold on its volume
 unfoldable pub is_volume_unbroken : ℕ → List ℕ → Bool
-is_volume_unbroken size image = is_volume_unbroken_by size image (volume_of size image)
+is_volume_unbroken size image = is_volume_unbroken_by size image (kept_sequence_of size image)
 
 -- the sectors in which two images differ
 unfoldable pub difference : ℕ → List ℕ → List ℕ → List ℕ
@@ -55,8 +55,8 @@ unfoldable pub plan_of : ℕ → List ℕ → List ℕ → List (ℕ × List ℕ
 plan_of size image after = map (λ n. (n, block_of size after n)) (difference size image after)
 
 -- the blocks of the kept descriptors, which no mend writes
-abbrev pub sealed : Volume → Area
-sealed volume = record { start = (kept volume).start; count = length volume.list }
+abbrev pub sealed : KeptSequence → Area
+sealed sequence = record { start = (kept sequence).start; count = length sequence.list }
 
-unfoldable pub is_sealed : Volume → ℕ → Bool
-is_sealed volume n = covers (sealed volume) n
+unfoldable pub is_sealed : KeptSequence → ℕ → Bool
+is_sealed sequence n = covers (sealed sequence) n

@@ -7,7 +7,7 @@ use Rattle.udf_model.specs.Tag.{id_at, is_id}
 use Rattle.udf_volume_model.specs.Sequence.{Descriptor, views, front_of}
 use Rattle.udf_volume_model.specs.Prevailing.{subject_of, prevailing}
 use Rattle.udf_volume_model.specs.Anchor.{Extent, Anchor, blocks_of, named_by}
-use Rattle.udf_volume_model.specs.Kept.{Volume, other, sequence_at, limit_of}
+use Rattle.udf_volume_model.specs.Kept.{KeptSequence, other, sequence_at, limit_of}
 use Rattle.udf_volume_model.specs.Areas.{Area, areas_of, is_outside}
 
 -- the places in ascending order, in an image of so many blocks
@@ -24,8 +24,8 @@ unfoldable pub is_eligible : List Area → ℕ → Bool
 is_eligible areas place = nat_le 256 place && is_outside areas place
 
 -- the places that are at least 256 and lie in no area
-unfoldable pub eligible : ℕ → ℕ → Volume → List ℕ
-eligible size blocks volume = filter (is_eligible (areas_of size volume.anchor volume.list)) (ascending_places blocks)
+unfoldable pub eligible : ℕ → ℕ → KeptSequence → List ℕ
+eligible size blocks sequence = filter (is_eligible (areas_of size sequence.anchor sequence.list)) (ascending_places blocks)
 
 unfoldable pub same_extent : Extent → Extent → Bool
 same_extent a b = (a.bytes == b.bytes) && (a.start == b.start)
@@ -37,17 +37,21 @@ same_anchor a b = same_extent a.main b.main && same_extent a.reserve b.reserve
 unfoldable pub is_good : Anchor → ℕ → List ℕ → Bool
 is_good anchor place block = is_id 2 (id_at place block) && same_anchor (named_by block) anchor
 
-abbrev pub good_of : (ℕ → List ℕ) → Volume → List ℕ → List ℕ
-good_of disk volume list = filter (λ place. is_good volume.anchor place (disk place)) list
+abbrev pub good_of : (ℕ → List ℕ) → KeptSequence → List ℕ → List ℕ
+good_of disk sequence list = filter (λ place. is_good sequence.anchor place (disk place)) list
 
-abbrev pub bad_of : (ℕ → List ℕ) → Volume → List ℕ → List ℕ
-bad_of disk volume list = filter (λ place. not (is_good volume.anchor place (disk place))) list
+abbrev pub bad_of : (ℕ → List ℕ) → KeptSequence → List ℕ → List ℕ
+bad_of disk sequence list = filter (λ place. not (is_good sequence.anchor place (disk place))) list
 
--- The rule on anchors: at least two of the eligible places are good, or all are.
-unfoldable pub anchors_hold : ℕ → ℕ → (ℕ → List ℕ) → Volume → Bool
-anchors_hold size blocks disk volume =
-    nat_le 2 (length (good_of disk volume (eligible size blocks volume)))
-    || list_all (λ place. is_good volume.anchor place (disk place)) (eligible size blocks volume)
+-- of these places at least two are good, or all are
+abbrev pub suffice : Anchor → (ℕ → List ℕ) → List ℕ → Bool
+suffice anchor disk places =
+    nat_le 2 (length (filter (λ place. is_good anchor place (disk place)) places))
+    || list_all (λ place. is_good anchor place (disk place)) places
+
+-- The rule on anchors: the eligible places suffice.
+unfoldable pub anchors_hold : ℕ → ℕ → (ℕ → List ℕ) → KeptSequence → Bool
+anchors_hold size blocks disk sequence = suffice sequence.anchor disk (eligible size blocks sequence)
 
 abbrev pub same_descriptor : Option Descriptor → Option Descriptor → Bool
 same_descriptor None None = true
@@ -70,8 +74,8 @@ agrees list None = false
 agrees list (Some others) = same_prevailing list others
 
 -- The rule on sequences: the other sequence is whole, and the same descriptors prevail in it.
-unfoldable pub sequences_hold : ℕ → (ℕ → List ℕ) → Volume → Bool
-sequences_hold size disk volume = agrees volume.list (sequence_at size disk (limit_of size volume.anchor) (other volume))
+unfoldable pub sequences_hold : ℕ → (ℕ → List ℕ) → KeptSequence → Bool
+sequences_hold size disk sequence = agrees sequence.list (sequence_at size disk (limit_of size sequence.anchor) (other sequence))
 
 -- Where something is found: a sector of the image, or a block of a partition by its reference.
 pub data Place : Type 0 where
@@ -79,39 +83,39 @@ pub data Place : Type 0 where
   At : ℕ → ℕ → Place
 
 -- What is found: the number of the rule, the place, and two values.
-pub record Found : Type 0 where
+pub record Finding : Type 0 where
   pub rule : ℕ
   pub place : Place
   pub first : ℕ
   pub second : ℕ
 
 -- each eligible place that is not good, with the numbers of good and of eligible ones
-unfoldable pub anchor_findings : ℕ → ℕ → (ℕ → List ℕ) → Volume → List Found
-anchor_findings size blocks disk volume =
-    if anchors_hold size blocks disk volume then []
+unfoldable pub anchor_findings : ℕ → ℕ → (ℕ → List ℕ) → KeptSequence → List Finding
+anchor_findings size blocks disk sequence =
+    if anchors_hold size blocks disk sequence then []
     else map
     (λ place. record {
       rule = 2;
       place = Sector place;
-      first = length (good_of disk volume (eligible size blocks volume));
-      second = length (eligible size blocks volume);
+      first = length (good_of disk sequence (eligible size blocks sequence));
+      second = length (eligible size blocks sequence);
     })
-    (bad_of disk volume (eligible size blocks volume))
+    (bad_of disk sequence (eligible size blocks sequence))
 
 -- the first sector of the other extent, with the number of descriptors read there and that of the kept ones
-unfoldable pub sequence_findings : ℕ → (ℕ → List ℕ) → Volume → List Found
-sequence_findings size disk volume =
-    if sequences_hold size disk volume then []
+unfoldable pub sequence_findings : ℕ → (ℕ → List ℕ) → KeptSequence → List Finding
+sequence_findings size disk sequence =
+    if sequences_hold size disk sequence then []
     else record {
       rule = 3;
-      place = Sector (other volume).start;
-      first = length (front_of (views disk (other volume).start (blocks_of size (other volume))));
-      second = length volume.list;
+      place = Sector (other sequence).start;
+      first = length (front_of (views disk (other sequence).start (blocks_of size (other sequence))));
+      second = length sequence.list;
     } ∷ []
 
-unfoldable pub rules_hold : ℕ → ℕ → (ℕ → List ℕ) → Volume → Bool
-rules_hold size blocks disk volume = anchors_hold size blocks disk volume && sequences_hold size disk volume
+unfoldable pub rules_hold : ℕ → ℕ → (ℕ → List ℕ) → KeptSequence → Bool
+rules_hold size blocks disk sequence = anchors_hold size blocks disk sequence && sequences_hold size disk sequence
 
 -- in the order of rules, then of sectors
-unfoldable pub findings : ℕ → ℕ → (ℕ → List ℕ) → Volume → List Found
-findings size blocks disk volume = anchor_findings size blocks disk volume ++ sequence_findings size disk volume
+unfoldable pub findings : ℕ → ℕ → (ℕ → List ℕ) → KeptSequence → List Finding
+findings size blocks disk sequence = anchor_findings size blocks disk sequence ++ sequence_findings size disk sequence

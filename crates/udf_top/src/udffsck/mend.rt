@@ -9,7 +9,7 @@ ghost use Rattle.udf_volume_model.specs.Opened.{plan_of};
 ghost use Rattle.udf_volume_model.specs.Plans.{IsRewrite};
 ghost use Rattle.udf_volume.specs.Laid.{IsLaidOut};
 ghost use Rattle.udf_volume.specs.Opened.{IsBounded};
-ghost use Rattle.udf_volume.specs.Writable.{opened_writable};
+ghost use Rattle.udf_volume.specs.Writable.{writable_opening};
 ghost use Rattle.udf_blocks.specs.PlanFor.{sealed_stated, IsPlanFor};
 ghost use Rattle.udf_model.specs.Size.{is_size};
 ghost use Rattle.udf_redo.specs.Sealing.{sealed_area};
@@ -17,7 +17,7 @@ ghost use Rattle.udf_redo.specs.Settled.{IsFree};
 ghost use Rattle.udf_redo.specs.Faults.{HasFault, OnlyFaultsOrMemory};
 ghost use Rattle.udf_redo.specs.declared.stop.RedoStop.TheVariants.{Memory};
 ghost use Rattle.udf_words.specs.declared.cause.Cause.{Cause};
-ghost use Rattle.udf_rules.specs.Found.{findings_in};
+ghost use Rattle.udf_rules.specs.Findings.{findings_in};
 ghost use Rattle.udf_top.specs.Texts.{text_of};
 ghost use Rattle.udf_top.specs.Repairing.{mend_said, repaired_as};
 ghost use Rattle.udf_top.specs.Endings.{HasOpenedNoGate, HasEnded};
@@ -169,7 +169,7 @@ fn mend_broken<B: Bench, O: Sink>(
     requires size { is_size found.now.volume.size ≡ true }
     requires bounded { IsBounded found.now.volume.size ((B.files bench.old).image.size / found.now.volume.size) found.now.volume }
     requires laid { IsLaidOut found.now.volume }
-    requires opened { B.tells → opened_writable found.now.volume.size (bytes_of Image (B.held bench.old)) ≡ Ok found.now.volume }
+    requires opened { B.tells → writable_opening found.now.volume.size (bytes_of Image (B.held bench.old)) ≡ Ok found.now.volume }
     requires findings { B.tells → found.now.findings ≡ findings_in found.now.volume.size (bytes_of Image (B.held bench.old)) }
     requires broken { 1 ≤ length found.now.findings }
     requires free { B.tells → IsFree (bytes_of Side (B.held bench.old)) }

@@ -1,9 +1,6 @@
 use Rattle.std.proofs.Common.{◌≡◌, ◌++◌, take}
-use Rattle.udf_model.specs.Image.{block_of}
-use Rattle.udf_outside.specs.Stops.{bytes_of}
-use Rattle.udf_outside.specs.declared.bench.Role.TheVariants.{Image}
-use Rattle.udf_volume.specs.Areas.{anchor_stated}
-use Rattle.udf_plan.specs.Changes.{changes, anchor_after, KeepsTo}
+use Rattle.udf_outside.specs.Sectors.{disk_of}
+use Rattle.udf_plan.specs.Changes.{changes, copy_of, KeepsTo}
 use Rattle.udf_plan.proofs.anchors.add_anchors.Given as goal
 
 abbrev pub invariant-loop-place : goal.invariant-loop-place
@@ -14,7 +11,7 @@ invariant-loop-place g l = record {
   sized : l.plan.size ≡ l.initial.plan.size;
   keeps : KeepsTo (take l.place-index l.places) l.initial.plan.blocks l.plan.blocks;
   added : g.B.Bench.tells → l.plan.blocks ≡ l.initial.plan.blocks
-      ++ changes (block_of l.volume.size (bytes_of Image (g.B.Bench.held l.initial.bench)))
-      (anchor_after (block_of l.volume.size (bytes_of Image (g.B.Bench.held l.initial.bench))) (anchor_stated l.volume) l.kept)
+      ++ changes (disk_of l.volume.size (g.B.Bench.held l.initial.bench))
+      (copy_of (disk_of l.volume.size (g.B.Bench.held l.initial.bench)) l.volume.anchor)
       (take l.place-index l.places);
 }

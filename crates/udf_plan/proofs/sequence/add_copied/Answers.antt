@@ -10,24 +10,24 @@ use Rattle.udf_plan.proofs.sequence.add_copied.Goals as goal
 
 pub add_copies-requires-clause-from_inside : goal.add_copies-requires-clause-from_inside
 add_copies-requires-clause-from_inside g c =
-    let v = c.args.volume.now in last_inside v c.requires.bounded v.kept _ (ap (λ (s : Span). s.start) c.kept_extent-from.ensures)
+    let v = c.args.volume.now in last_inside v c.requires.over.bounded v.kept _ (ap (λ (s : Span). s.start) c.kept_extent-from.ensures)
 
 pub add_copies-requires-clause-to_inside : goal.add_copies-requires-clause-to_inside
 add_copies-requires-clause-to_inside g c =
-    let v = c.args.volume.now in last_inside v c.requires.bounded (opposite v.kept) _ (ap (λ (s : Span). s.start) c.other_extent-to.ensures)
+    let v = c.args.volume.now in last_inside v c.requires.over.bounded (opposite v.kept) _ (ap (λ (s : Span). s.start) c.other_extent-to.ensures)
 
-pub overflow_add-to : goal.overflow_add-to
-overflow_add-to g c =
+pub overflow_add-target : goal.overflow_add-target
+overflow_add-target g c =
     let v = c.args.volume.now in
-    omega (arith, c.requires.bounded.few, last_inside v c.requires.bounded (opposite v.kept) c.other_extent-to.result.start (ap (λ (s : Span). s.start) c.other_extent-to.ensures))
+    omega (arith, c.requires.over.bounded.few, last_inside v c.requires.over.bounded (opposite v.kept) c.other_extent-to.result.start (ap (λ (s : Span). s.start) c.other_extent-to.ensures))
 
 pub add_end-requires-clause-source_inside : goal.add_end-requires-clause-source_inside
 add_end-requires-clause-source_inside g c =
-    let v = c.args.volume.now in last_inside v c.requires.bounded v.kept _ (ap (λ (s : Span). s.start) c.kept_extent-from.ensures)
+    let v = c.args.volume.now in last_inside v c.requires.over.bounded v.kept _ (ap (λ (s : Span). s.start) c.kept_extent-from.ensures)
 
 pub add_end-requires-clause-target_inside : goal.add_end-requires-clause-target_inside
 add_end-requires-clause-target_inside g c =
-    let v = c.args.volume.now in last_inside v c.requires.bounded (opposite v.kept) _ (ap (λ (s : Span). s.start) c.other_extent-to.ensures)
+    let v = c.args.volume.now in last_inside v c.requires.over.bounded (opposite v.kept) _ (ap (λ (s : Span). s.start) c.other_extent-to.ensures)
 
 pub add_end-requires-clause-above : goal.add_end-requires-clause-above
 add_end-requires-clause-above g c =

@@ -4,7 +4,7 @@ use Rattle.udf_outside.specs.Stops.{bytes_of}
 use Rattle.udf_outside.specs.declared.bench.Role.TheVariants.{Image}
 use Rattle.udf_volume_model.specs.Mended.{end_block}
 use Rattle.udf_blocks.specs.Planned.{Planned}
-use Rattle.udf_plan.specs.Changes.{block_at, KeepsTo}
+use Rattle.udf_plan.specs.Changes.{KeepsTo}
 use Rattle.udf_plan.proofs.Changing.{compared, keeps_one}
 use Rattle.udf_plan.proofs.sequence.add_end.Goals as goal
 
@@ -16,7 +16,7 @@ returns-clause-added g c = λ tells.
     c.in_ok-read_block.ensures.block tells ∙ ap (λ h. block_of size (bytes_of Image h) c.args.target) c.in_ok-make_end.ensures.reads.held in
     ap (λ (p : Planned). p.blocks) c.in_ok-add_difference.ensures
     ∙ ap (λ more. c.args.plan.now.blocks ++ more)
-    (compared disk (λ n. end_block size n (disk c.args.source) (block_at disk c.args.logical)) c.args.target c.read_block.new.into c.make_end.new.made now
+    (compared disk (λ n. end_block size n (disk c.args.source) (disk c.args.volume.now.lvd)) c.args.target c.read_block.new.into c.make_end.new.made now
     (c.in_ok-make_end.ensures.made tells))
 
 pub returns-clause-keeps : goal.returns-clause-keeps

@@ -6,5 +6,4 @@ use Rattle.udf_plan.proofs.volume.wanted_places.Goals as goal
 pub returns-clause-ruled : goal.returns-clause-ruled
 returns-clause-ruled g c =
     let v = c.args.volume.now in
-    subst (λ (xs : List ℕ). AreRuled v xs) (sym c.places_to_mend.ensures)
-    (ruled_of v c.in_ok-places.places.items c.deref-2.result.now c.in_ok-places.ensures.places c.in_ok-places.ensures.inside)
+    subst (λ (xs : List ℕ). AreRuled v xs) (sym c.places_to_mend.ensures) (ruled_of v c.in_ok-verdict.verdict c.in_ok-verdict.ensures.places)

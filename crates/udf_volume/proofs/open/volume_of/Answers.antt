@@ -5,8 +5,8 @@ use Rattle.udf_volume_model.specs.Sequence.{Descriptor}
 use Rattle.udf_field.specs.FieldView.{span_at, long_at}
 use Rattle.udf_volume.specs.declared.volume.Upper.TheVariants.{Absent}
 use Rattle.udf_volume.specs.Led.{led_seen}
-use Rattle.udf_volume.specs.Opened.{volume_by, sector_in, bitmap_in, is_guarded}
-use Rattle.udf_volume.proofs.Opening.{which_back, information_is}
+use Rattle.udf_volume.specs.Opened.{volume_by, bitmap_in, is_guarded}
+use Rattle.udf_volume.proofs.Opening.{which_back}
 use Rattle.udf_volume.proofs.Leads.{sector_is}
 use Rattle.udf_volume.proofs.open.volume_of.Goals as goal
 
@@ -30,7 +30,7 @@ returns c = λ described here.
       pvd = sector_is led 1 [] _ _ leading.primary c.sector_at.ensures i;
       lvd = sector_is led 6 [] _ _ leading.logical c.sector_at-2.ensures i;
       pd = sector_is led 5 _ _ _ c.requires.partition c.sector_at-3.ensures i;
-      info = (c.information_sector.ensures ∙ ap (sector_in led 4) information_is) i;
+      info = c.information_sector.ensures i;
       shape = record { base = 0; sparing = None; upper = Absent };
       start = (c.u32_at.ensures ∙ ap (λ b. number_at 4 b 172) partition) i;
       length = (c.u32_at-2.ensures ∙ ap (λ b. number_at 4 b 176) partition) i;
@@ -39,5 +39,5 @@ returns c = λ described here.
       file_set = (c.long_at.ensures ∙ ap (λ b. long_at b 232) logical) i;
       revision = (c.u16_at.ensures ∙ ap (λ b. number_at 2 b 224) logical) i;
       access = (c.u32_at-3.ensures ∙ ap (λ b. number_at 4 b 168) partition) i;
-      guarded = (c.is_protected.ensures ∙ ap is_guarded (c.u8_at.ensures ∙ ap (λ b. slice_index b 226) logical)) i;
+      guarded = (c.is_guarded.ensures ∙ ap is_guarded (c.u8_at.ensures ∙ ap (λ b. slice_index b 226) logical)) i;
     }

@@ -18,5 +18,5 @@ loop-i-preserved g c = record {
       c.in_ok-read_block.ensures.block tells ∙ ap (λ held. disk held (c.args.start + c.loop-i.i)) c.loop-i.invariant.held in
       let P : List Descriptor → Type 0 = λ l. SoFar (disk (g.B.Bench.held c.args.bench.now)) c.args.start c.args.count (c.loop-i.i + 1) l in
       subst P (sym c.in_ok-push-in-Listed.ensures.items)
-      (goes_on _ _ _ _ c.loop-i.i _ _ _ _ c.loop-i-test.true (c.loop-i.invariant.so_far tells) is c.in_ok-what_it_says.ensures c.in-Listed.is);
+      (goes_on _ _ _ _ c.loop-i.i _ _ _ _ c.loop-i-test.true (c.loop-i.invariant.so_far tells) is c.in_ok-read_view.ensures c.in-Listed.is);
 }
