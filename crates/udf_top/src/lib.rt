@@ -13,4 +13,5 @@ mod udffsck;
 pub use laws::{chain_law, clean_law, rerun_law};
 pub use outcome::{Outcome, status};
 pub use udf_rules::{Finding, Findings, Place, report_line};
+pub use udf_words::Cause;
 pub use udffsck::run_udffsck;
