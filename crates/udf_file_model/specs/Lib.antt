@@ -1,4 +1,14 @@
 -- The definitions of files.
+pub mod Entry
+pub mod Descriptors
+pub mod Pieces
+pub mod Front
+pub mod Listing
+pub mod Content
+pub mod Cut
+pub mod CutBody
+pub mod Wanted
+pub mod CutEntry
 pub mod Fid
 pub mod Scan
 pub mod Pack
