@@ -1,13 +1,13 @@
 -- The mended entry is read as the entry with the wanted values.
-use Rattle.std.proofs.Common.{◌≡◌, ℕ, Bool, true, false, cond, ◌+◌, ◌-◌, ◌%◌, ◌^◌, ◌<◌, ◌≤◌, ◌==◌, ◌&&◌, nat_lt, nat_le, ◌⊎◌, inl, inr, Option, Some, None, List, [], ◌∷◌, length, take, drop, get_or, arith, sym, ◌∙◌, ap, refl, subst}
+use Rattle.std.proofs.Common.{◌≡◌, ℕ, Bool, true, false, cond, ◌+◌, ◌-◌, ◌%◌, ◌^◌, ◌<◌, ◌≤◌, ◌==◌, ◌&&◌, nat_lt, nat_le, ◌⊎◌, inl, inr, Option, Some, None, List, ◌∷◌, length, take, drop, arith, sym, ◌∙◌, ap, refl, subst}
 use Rattle.std.proofs.lemmas.Bool.Decides.{nat_tests}
 use Rattle.std.proofs.lemmas.Bool.{and_from}
 use Rattle.std.proofs.lemmas.List.{drop-drop}
 use Rattle.udf_field.specs.declared.address.Long.{Long}
 use Rattle.udf_field.specs.FieldView.{kind_bits, length_bits, long_at}
-use Rattle.udf_model.specs.Bytes.{IsBytes, number_at, with_number, written_at}
+use Rattle.udf_model.specs.Bytes.{IsBytes, number_at}
 use Rattle.byteorder.specs.Endian.{little_number}
-use Rattle.udf_model.specs.Tag.{id_at, identifier, is_whole, location, retagged}
+use Rattle.udf_model.specs.Tag.{id_at, identifier, is_whole, location}
 use Rattle.udf_model.proofs.Retagged.{retagged_body, retagged_id, retagged_length, retagged_is_bytes}
 use Rattle.udf_model.proofs.Written.{number_apart, one_byte, written_back, written_is_bytes, written_length}
 use Rattle.udf_file_model.specs.Entry.{header_of_id, header_by, kind_at, attribute_bytes, descriptor_bytes, fits, fitting, entry_header, body_of, Entry, entry_in, entry_by, entry_of, flags_at, strategy_at, file_type_at, links_at, information_at, unique_id_at, attributes_place, stream_at}
@@ -28,18 +28,22 @@ opened at header block e = choose (is_whole block && (location block == at)) e
   where
     no_some : None ≡ Some header → ⊥
     no_some e = cc
+
     same : (x : ℕ) → Some x ≡ Some header → x ≡ header
     same x e = cc
+
     make : (x : ℕ) → (x ≡ 176) ⊎ (x ≡ 216) → header_of_id (identifier block) ≡ Some x → (t : Bool) → fits x block ≡ t → cond t (Some x) None ≡ Some header → Opened header block
     make x k n false f e = absurd (no_some e)
     make x k n true f e =
         let P : ℕ → Type 0 = λ z. Opened z block in
         let q : Opened x block = record { known = k; named = n; fitting = f } in
         subst P (same x e) q
+
     by_id : (a b : Bool) → (identifier block == 261) ≡ a → (identifier block == 266) ≡ b → fitting block (cond a (Some 176) (cond b (Some 216) None)) ≡ Some header → Opened header block
     by_id true b p q e = make 176 (inl refl) (rw p refl) (fits 176 block) refl e
     by_id false true p q e = make 216 (inr refl) (rw (p, q) refl) (fits 216 block) refl e
     by_id false false p q e = absurd (no_some e)
+
     choose : (t : Bool) → fitting block (header_by (cond t (Some (identifier block)) None)) ≡ Some header → Opened header block
     choose false e = absurd (no_some e)
     choose true e = by_id (identifier block == 261) (identifier block == 266) refl refl e
@@ -106,8 +110,27 @@ large_table w = choose w.clear refl
       id = λ x. refl;
       icb = record { stored = λ x. refl; block = λ x. refl; part = λ x. refl };
       stream = λ z. inl (e, record { stored = λ x. refl; block = λ x. refl; part = λ x. refl });
-      fit = λ size r b i o l d. (omega (arith, r), b, (omega (arith, r), l, (omega (arith, r), i, (omega (arith, r), d, (omega (arith, r), o,
-        (omega (arith, r), omega arith, (omega (arith, r), omega arith, (omega (arith, r), omega arith, (omega (arith, r), omega arith, tt)))))))));
+      fit = λ size r b i o l d. (
+        omega (arith, r),
+        b,
+        (
+          omega (arith, r),
+          l,
+          (
+            omega (arith, r),
+            i,
+            (
+              omega (arith, r),
+              d,
+              (
+                omega (arith, r),
+                o,
+                (omega (arith, r), omega arith, (omega (arith, r), omega arith, (omega (arith, r), omega arith, (omega (arith, r), omega arith, tt)))),
+              ),
+            ),
+          ),
+        ),
+      );
     }
     choose false e = record {
       tag = λ x. refl;
@@ -156,6 +179,7 @@ module _ (at header : ℕ) (w : Wanted) (block : List ℕ) (all : IsBytes block)
     where
       test : fits header block ≡ true → (nat_lt (kind_at block) 4 && nat_le (header + attribute_bytes header block + descriptor_bytes header block) (length block)) ≡ true
       test e = unfold fits in e
+
       below : {a b : ℕ} → nat_le a b ≡ true → a ≤ b
       below t = grind (arith, nat_tests)
 
@@ -223,19 +247,21 @@ module _ (at header : ℕ) (w : Wanted) (block : List ℕ) (all : IsBytes block)
   unfolding make_long
   long_stays p low high k =
       ap (λ n. make_long n (number_at 4 new (p + 4)) (number_at 2 new (p + 4 + 4)))
-        (new_number 4 p (number_at 4 block p) low (omega arith) (k.stored (number_at 4 block p)))
+      (new_number 4 p (number_at 4 block p) low (omega arith) (k.stored (number_at 4 block p)))
       ∙ ap (λ n. make_long (number_at 4 block p) n (number_at 2 new (p + 4 + 4)))
-        (new_number 4 (p + 4) (number_at 4 block (p + 4)) (omega arith) (omega arith) (k.block (number_at 4 block (p + 4))))
+      (new_number 4 (p + 4) (number_at 4 block (p + 4)) (omega arith) (omega arith) (k.block (number_at 4 block (p + 4))))
       ∙ ap (λ n. make_long (number_at 4 block p) (number_at 4 block (p + 4)) n)
-        (new_number 2 (p + 4 + 4) (number_at 2 block (p + 4 + 4)) (omega arith) (omega arith) (k.part (number_at 2 block (p + 4 + 4))))
+      (new_number 2 (p + 4 + 4) (number_at 2 block (p + 4 + 4)) (omega arith) (omega arith) (k.part (number_at 2 block (p + 4 + 4))))
 
   new_attribute_icb : long_at new (attributes_place header) ≡ long_at block (attributes_place header)
   new_attribute_icb = choose open_.known
     where
       off : header ≡ 176 → (header == 216) ≡ false
       off e = grind (arith, nat_tests)
+
       on : header ≡ 216 → (header == 216) ≡ true
       on e = grind (arith, nat_tests)
+
       choose : (header ≡ 176) ⊎ (header ≡ 216) → long_at new (attributes_place header) ≡ long_at block (attributes_place header)
       choose (inl e) =
           let is : attributes_place header ≡ 112 = rw (off e) refl in
@@ -266,12 +292,14 @@ module _ (at header : ℕ) (w : Wanted) (block : List ℕ) (all : IsBytes block)
       split xs =
           let e : 16 + (base_of header block - 16) ≡ base_of header block = omega (arith, least) in
           sym (ap (λ k. drop k xs) e) ∙ sym (drop-drop (base_of header block - 16) 16 xs)
+
       behind : drop (base_of header block) new ≡ drop (base_of header block) (body_with header w block)
       behind =
           unfold entry_with in
           split new
           ∙ ap (drop (base_of header block - 16)) (retagged_body at (base_of header block + length w.body - 16) (body_with header w block) (omega (arith, area_length)))
           ∙ sym (split (body_with header w block))
+
       there : take (length w.body) (drop (base_of header block) (body_with header w block)) ≡ w.body
       there = unfold body_with in written_back (base_of header block) (length w.body) w.body set refl (omega (arith, set_length, ends))
 
@@ -303,13 +331,17 @@ module _ (at header : ℕ) (w : Wanted) (block : List ℕ) (all : IsBytes block)
     where
       form : List ℕ → Bool → Option Long
       form xs t = cond t (Some (long_at xs 152)) None
+
       clear_none : (c : Bool) → None ≡ stream_left c None
       clear_none true = refl
       clear_none false = refl
+
       off : header ≡ 176 → (header == 216) ≡ false
       off e = grind (arith, nat_tests)
+
       on : header ≡ 216 → (header == 216) ≡ true
       on e = grind (arith, nat_tests)
+
       zeros : header ≡ 216 → IsNowhere 152 (fields_of header w) → long_at new 152 ≡ nowhere
       zeros e k =
           let s = new_number 4 152 0 (omega arith) (omega (arith, e)) (k.stored (number_at 4 block 152)) in
@@ -317,10 +349,12 @@ module _ (at header : ℕ) (w : Wanted) (block : List ℕ) (all : IsBytes block)
           let p = front_zero 160 new (new_number 4 160 0 (omega arith) (omega (arith, e)) (k.part (number_at 4 block 160))) in
           unfold make_long in
           ap (λ n. make_long n (number_at 4 new 156) (number_at 2 new 160)) s ∙ ap (λ n. make_long 0 n (number_at 2 new 160)) b ∙ ap (λ n. make_long 0 0 n) p
+
       by_rows : header ≡ 216 → (w.clear ≡ true × IsNowhere 152 (fields_of header w)) ⊎ (w.clear ≡ false × IsKept 152 (fields_of header w))
           → form new true ≡ stream_left w.clear (form block true)
       by_rows e (inl r) = ap Some (zeros e r.1) ∙ sym (ap (λ c. stream_left c (form block true)) r.0)
       by_rows e (inr r) = ap Some (long_stays 152 (omega arith) (omega (arith, e)) r.1) ∙ sym (ap (λ c. stream_left c (form block true)) r.0)
+
       choose : (header ≡ 176) ⊎ (header ≡ 216) → form new (header == 216) ≡ stream_left w.clear (form block (header == 216))
       choose (inl e) = ap (form new) (off e) ∙ clear_none w.clear ∙ ap (λ t. stream_left w.clear (form block t)) (sym (off e))
       choose (inr e) = ap (form new) (on e) ∙ by_rows e (rows.stream e) ∙ ap (λ t. stream_left w.clear (form block t)) (sym (on e))
@@ -341,15 +375,15 @@ module _ (at header : ℕ) (w : Wanted) (block : List ℕ) (all : IsBytes block)
       let b0 = body_of header new in
       ap (entry_by new) new_header
       ∙ ap Some (
-        ap (λ x. make_entry header x (strategy_at new) (flags_at new) (kind_at new) (links_at new) i0 d0 a0 p0 b0) new_type
-        ∙ ap (λ x. make_entry header t1 x (flags_at new) (kind_at new) (links_at new) i0 d0 a0 p0 b0) new_strategy
-        ∙ ap (λ x. make_entry header t1 s1 x (kind_at new) (links_at new) i0 d0 a0 p0 b0) new_flags
-        ∙ ap (λ x. make_entry header t1 s1 f1 x (links_at new) i0 d0 a0 p0 b0) new_kind
-        ∙ ap (λ x. make_entry header t1 s1 f1 k1 x i0 d0 a0 p0 b0) (new_number 2 48 w.links (omega arith) (omega (arith, least)) (rows.links (links_at block)))
-        ∙ ap (λ x. make_entry header t1 s1 f1 k1 w.links x d0 a0 p0 b0)
-          (new_number 8 56 w.information (omega arith) (omega (arith, least)) (rows.information (information_at block)))
-        ∙ ap (λ x. make_entry header t1 s1 f1 k1 w.links w.information x a0 p0 b0)
-          (new_number 8 (header - 16) w.id (omega (arith, least)) (omega (arith, least)) (rows.id (unique_id_at header block)))
-        ∙ ap (λ x. make_entry header t1 s1 f1 k1 w.links w.information w.id x p0 b0) new_attribute_icb
-        ∙ ap (λ x. make_entry header t1 s1 f1 k1 w.links w.information w.id a1 x b0) new_stream
-        ∙ ap (λ x. make_entry header t1 s1 f1 k1 w.links w.information w.id a1 (stream_left w.clear (stream_at header block)) x) new_body)
+      ap (λ x. make_entry header x (strategy_at new) (flags_at new) (kind_at new) (links_at new) i0 d0 a0 p0 b0) new_type
+      ∙ ap (λ x. make_entry header t1 x (flags_at new) (kind_at new) (links_at new) i0 d0 a0 p0 b0) new_strategy
+      ∙ ap (λ x. make_entry header t1 s1 x (kind_at new) (links_at new) i0 d0 a0 p0 b0) new_flags
+      ∙ ap (λ x. make_entry header t1 s1 f1 x (links_at new) i0 d0 a0 p0 b0) new_kind
+      ∙ ap (λ x. make_entry header t1 s1 f1 k1 x i0 d0 a0 p0 b0) (new_number 2 48 w.links (omega arith) (omega (arith, least)) (rows.links (links_at block)))
+      ∙ ap (λ x. make_entry header t1 s1 f1 k1 w.links x d0 a0 p0 b0)
+      (new_number 8 56 w.information (omega arith) (omega (arith, least)) (rows.information (information_at block)))
+      ∙ ap (λ x. make_entry header t1 s1 f1 k1 w.links w.information x a0 p0 b0)
+      (new_number 8 (header - 16) w.id (omega (arith, least)) (omega (arith, least)) (rows.id (unique_id_at header block)))
+      ∙ ap (λ x. make_entry header t1 s1 f1 k1 w.links w.information w.id x p0 b0) new_attribute_icb
+      ∙ ap (λ x. make_entry header t1 s1 f1 k1 w.links w.information w.id a1 x b0) new_stream
+      ∙ ap (λ x. make_entry header t1 s1 f1 k1 w.links w.information w.id a1 (stream_left w.clear (stream_at header block)) x) new_body)

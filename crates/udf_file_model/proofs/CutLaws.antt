@@ -44,6 +44,7 @@ comes r past d h =
   where
     less : nat_lt (bytes_in past.runs + d.length) (2 ^ 63) ≡ true → bytes_in past.runs + d.length < 2 ^ 63
     less e = grind (arith, nat_tests)
+
     late_by : (a b : Bool) → nat_lt (bytes_in past.runs) r.information ≡ b → not (a && b) ≡ true → a ≡ true → r.information ≤ bytes_in past.runs
     late_by true true e h f = absurd (cc)
     late_by true false e h f = grind (arith, nat_tests)
@@ -57,8 +58,10 @@ may_come_from r past d c =
   where
     less : bytes_in past.runs + d.length < 2 ^ 63 → nat_lt (bytes_in past.runs + d.length) (2 ^ 63) ≡ true
     less e = grind (arith, nat_tests)
+
     not_less : (m n : ℕ) → n ≤ m → nat_lt m n ≡ false
     not_less m n h = grind (arith, nat_tests)
+
     late_by : (a : Bool) → list_any (is_part r.size) past.runs ≡ a → not (a && nat_lt (bytes_in past.runs) r.information) ≡ true
     late_by true e = ap not (not_less (bytes_in past.runs) r.information (c.late e))
     late_by false e = refl
@@ -99,9 +102,11 @@ passes_from r past d c how =
     hole_or : (a b : Bool) → a ≡ true → (a || b) ≡ true
     hole_or true b e = refl
     hole_or false b e = absurd (cc)
+
     or_new : (a b : Bool) → b ≡ true → (a || b) ≡ true
     or_new true b e = refl
     or_new false b e = e
+
     either : (is_hole d ≡ true) ⊎ (new_in r past d ≡ blocks_for r.size d.length) → (is_hole d || (new_in r past d == blocks_for r.size d.length)) ≡ true
     either (inl e) = hole_or (is_hole d) (new_in r past d == blocks_for r.size d.length) e
     either (inr e) = or_new (is_hole d) (new_in r past d == blocks_for r.size d.length) (grind (arith, nat_tests))
@@ -125,7 +130,7 @@ module _ (r : Rules) (whole : Addr → Bool) (some : 0 < r.size) where
           → (is_hole d ≡ true) ⊎ (new_in (with_information r n) past (record d { length = b }) ≡ blocks_for r.size b)
       how (inl e) = inl e
       how (inr e) = inr (new_by r n past d.at.part d.at.block (blocks_for r.size b)
-        ∙ fewer_new r past d.at.part d.at.block (blocks_for r.size d.length) (blocks_for r.size b) (fewer_blocks r.size b d.length some less) e)
+          ∙ fewer_new r past d.at.part d.at.block (blocks_for r.size d.length) (blocks_for r.size b) (fewer_blocks r.size b d.length some less) e)
 
 bytes_push : (ds : List Descriptor) (d : Descriptor) → bytes_in (ds ++ d ∷ []) ≡ bytes_in ds + d.length
 bytes_push [] d = omega arith
@@ -144,6 +149,7 @@ part_push size (x ∷ ds) d e f =
     none : (a b : Bool) → (a || b) ≡ false → (a ≡ false) × (b ≡ false)
     none true b h = absurd (cc)
     none false b h = (refl, h)
+
     both_false : (a b : Bool) → a ≡ false → b ≡ false → (a || b) ≡ false
     both_false true b e f = e
     both_false false b e f = f
@@ -191,8 +197,8 @@ module _ (r : Rules) (whole : Addr → Bool) (some : 0 < r.size) (n : ℕ) where
       let late = late_by past d b (Blocks d ∷ rest) (passes_by r past d t.0).0 sum room in
       choose (b == 0) (nat_lt d.length b) refl
       (λ l. and_true (run_passes cut_to past d) (is_good cut_to whole (with_run past d) (cut_pieces (b - d.length) rest))
-        (front_passes r whole some n past d d.length t.0 (omega arith) late)
-        (cut_good rest (with_run past d) (b - d.length) t.1 (omega (arith, bytes_push past.runs d)) (room_on past d b rest l room)))
+      (front_passes r whole some n past d d.length t.0 (omega arith) late)
+      (cut_good rest (with_run past d) (b - d.length) t.1 (omega (arith, bytes_push past.runs d)) (room_on past d b rest l room)))
       (λ l. and_true (run_passes cut_to past (record d { length = b })) true (front_passes r whole some n past d b t.0 l late) refl)
     where
       choose : (z w : Bool) → nat_lt d.length b ≡ w

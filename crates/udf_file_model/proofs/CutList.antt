@@ -1,12 +1,12 @@
 -- The list that is read after a cut is the cut list.
-use Rattle.std.proofs.Common.{◌≡◌, ℕ, zero, suc, Bool, true, false, cond, ◌+◌, ◌*◌, ◌<◌, ◌≤◌, ◌==◌, ◌&&◌, ◌⊎◌, inl, inr, nat_le, length, drop, Option, Some, None, List, [], ◌∷◌, take, arith, sym, ◌∙◌, ap, refl, subst}
+use Rattle.std.proofs.Common.{◌≡◌, ℕ, zero, suc, Bool, true, false, cond, ◌+◌, ◌*◌, ◌<◌, ◌≤◌, ◌==◌, ◌&&◌, ◌⊎◌, inl, inr, nat_le, length, drop, Option, Some, None, List, [], take, arith, sym, ◌∙◌, ap, refl, subst}
 use Rattle.std.specs.Prelude.{is_some}
 use Rattle.std.proofs.lemmas.Bool.Decides.{nat_tests}
 use Rattle.udf_field.specs.declared.address.Addr.{Addr}
 use Rattle.udf_model.specs.Bytes.{IsBytes, number_at}
 use Rattle.udf_model.specs.Tag.{id_at, is_id}
 use Rattle.udf_model.proofs.Parts.{take_is_bytes, drop_is_bytes}
-use Rattle.udf_file_model.specs.Entry.{Entry, extent_body, is_directory}
+use Rattle.udf_file_model.specs.Entry.{Entry, extent_body}
 use Rattle.udf_file_model.specs.Descriptors.{Descriptor, descriptors}
 use Rattle.udf_file_model.specs.Pieces.{Piece, pieces, further, IsAmong, size_of, bytes_in}
 use Rattle.udf_file_model.specs.Front.{Rules, nothing_yet, good_front, is_good}
@@ -19,7 +19,7 @@ use Rattle.udf_file_model.proofs.Trimming.{flat_agree, pieces_nil}
 use Rattle.udf_file_model.proofs.CutLaws.{good_all}
 use Rattle.udf_file_model.proofs.CutReads.{cut_none}
 use Rattle.udf_file_model.proofs.Once.{front_fits}
-use Rattle.udf_file_model.proofs.Left.{by_left, left_trimmed, inside_fits, FitsBody, left_fits, CutReads, cut_is_read}
+use Rattle.udf_file_model.proofs.Left.{by_left, left_trimmed, inside_fits, left_fits, CutReads, cut_is_read}
 use Rattle.udf_file_model.proofs.Cutting.{body_cut, none_in_empty}
 
 extent_is_bytes : (location : ℕ) (block body : List ℕ) → IsBytes block → extent_body location block ≡ Some body → IsBytes body
@@ -29,8 +29,10 @@ extent_is_bytes location block body all e =
   where
     no_some : None ≡ Some body → ⊥
     no_some e = cc
+
     same : (x : List ℕ) → Some x ≡ Some body → x ≡ body
     same x e = cc
+
     choose : (t : Bool) → cond t (Some (take (number_at 4 block 20) (drop 24 block))) None ≡ Some body → IsBytes body
     choose true e =
         subst IsBytes (same (take (number_at 4 block 20) (drop 24 block)) e) (take_is_bytes (number_at 4 block 20) (drop 24 block) (drop_is_bytes 24 block all))
@@ -109,6 +111,7 @@ module _ (v : Volume) (disk : ℕ → List ℕ) (a : Addr) (e : Entry) (b : ℕ)
       where
         no_some : None ≡ Some body → ⊥
         no_some e = cc
+
         by_place : (p : Option ℕ) → body_at v.disk x.block p ≡ Some body → IsBytes body
         by_place None h = absurd (no_some h)
         by_place (Some s) h = extent_is_bytes x.block (v.disk s) body (bytes s) h
@@ -129,14 +132,14 @@ module _ (v : Volume) (disk : ℕ → List ℕ) (a : Addr) (e : Entry) (b : ℕ)
             let fit = left_fits at n b ds x m some flat_within l in
             let here : descriptors_by e.kind x (extent_at v x) ≡ descriptors e.kind x body = ap (descriptors_by e.kind x) f in
             body_cut x m body (extent_bytes x body f) e.kind
-              (λ o. let z : onward m (descriptors_by e.kind x (extent_at v x)) ≡ None = ap (onward m) here ∙ o in omega (arith, fit.within z, ap bytes_in here))
+            (λ o. let z : onward m (descriptors_by e.kind x (extent_at v x)) ≡ None = ap (onward m) here ∙ o in omega (arith, fit.within z, ap bytes_in here))
             ∙ cut_some m (descriptors e.kind x body) fit.some
             ∙ sym (ap (trim m) here)
 
     flat_is : pieces (further (descriptors_in w e.kind) n) (trim b ds) ≡ cut_pieces b xs
     flat_is =
         sym (flat_agree (trimmed at n b ds) (descriptors_in w e.kind) n (trim b ds)
-          (λ x i. sym (extent_trimmed x (let P : List Piece → Type 0 = λ l. IsAmong x l in subst P reads.flat_is i))))
+        (λ x i. sym (extent_trimmed x (let P : List Piece → Type 0 = λ l. IsAmong x l in subst P reads.flat_is i))))
         ∙ reads.flat_is
 
     new_flat : flat_for w a (cut_entry a b e) ≡ cut_pieces b xs
@@ -177,12 +180,12 @@ module _ (v : Volume) (disk : ℕ → List ℕ) (a : Addr) (e : Entry) (b : ℕ)
 
   pub cut_list_is : list_for w a (cut_entry a b e) ≡ cut_pieces b (list_for v a e)
   cut_list_is = elim either [
-      inl h ↦ unfold list_for good_front in (ap (good_front (rules_for w a (cut_entry a b e)) (is_extent w) nothing_yet) (empty_flat h) ∙ sym (cut_none b (list_for v a e) h))
+    | inl h ↦ unfold list_for good_front in (ap (good_front (rules_for w a (cut_entry a b e)) (is_extent w) nothing_yet) (empty_flat h) ∙ sym (cut_none b (list_for v a e) h))
     | inr h ↦ new_list h
-    ]
+  ]
 
   pub cut_list_good : is_good_for w a (cut_entry a b e) ≡ true
   cut_list_good = elim either [
-      inl h ↦ unfold is_good_for is_good in ap (is_good (rules_for w a (cut_entry a b e)) (is_extent w) nothing_yet) (empty_flat h)
+    | inl h ↦ unfold is_good_for is_good in ap (is_good (rules_for w a (cut_entry a b e)) (is_extent w) nothing_yet) (empty_flat h)
     | inr h ↦ new_good h
-    ]
+  ]

@@ -43,20 +43,27 @@ module _ (r : Rules) (whole : Addr → Bool) (some : 0 < r.size) where
           → (new_in r past d * r.size ≤ d.length) → cut_pieces b (Blocks d ∷ rest) ≡ cut_pieces b (blocks_each (cond z [] (record d { length = new_in r past d * r.size } ∷ [])))
       few true e h l = cut_none b (Blocks d ∷ rest) (omega arith) ∙ sym (cut_none b [] (omega arith))
       few false e h l = cut_one b (new_in r past d * r.size) d rest (omega arith) l
+
       less : may_come r past d ≡ true → new_in r past d * r.size ≤ d.length
       less come = less_by (is_hole d) (new_in r past d == blocks_for r.size d.length) refl (and_rest (may_come r past d) come fails)
         where
           and_rest : (a : Bool) → a ≡ true → (a && (is_hole d || (new_in r past d == blocks_for r.size d.length))) ≡ false → (is_hole d || (new_in r past d == blocks_for r.size d.length)) ≡ false
           and_rest true e h = h
           and_rest false e h = absurd (cc)
+
           apart : (m n : ℕ) → (m == n) ≡ false → m ≤ n → m < n
           apart m n e h = grind (arith, nat_tests)
+
           less_by : (a c : Bool) → (new_in r past d == blocks_for r.size d.length) ≡ c → (a || c) ≡ false → new_in r past d * r.size ≤ d.length
           less_by true c e h = absurd (cc)
           less_by false true e h = absurd (cc)
           less_by false false e h =
-              omega (arith, front_less r.size (new_in r past d) d.length some
-                (apart (new_in r past d) (blocks_for r.size d.length) e (new_few r past d.at.part d.at.block (blocks_for r.size d.length))))
+              omega (
+                arith,
+                front_less r.size (new_in r past d) d.length some
+                    (apart (new_in r past d) (blocks_for r.size d.length) e (new_few r past d.at.part d.at.block (blocks_for r.size d.length))),
+              )
+
       by_come : (c : Bool) → may_come r past d ≡ c → b ≤ size_of (blocks_each (cond c (front_of r.size d (new_in r past d)) []))
           → cut_pieces b (Blocks d ∷ rest) ≡ cut_pieces b (blocks_each (cond c (front_of r.size d (new_in r past d)) []))
       by_come true e h = few (new_in r past d == 0) refl h (less e)
@@ -77,6 +84,7 @@ module _ (r : Rules) (whole : Addr → Bool) (some : 0 < r.size) where
     where
       below : (m n : ℕ) → nat_lt m n ≡ true → m < n
       below m n h = grind (arith, nat_tests)
+
       choose : (t : Bool) → run_passes r past d ≡ t → b ≤ size_of (cond t (Blocks d ∷ good_front r whole (with_run past d) rest) (blocks_each (run_front r past d)))
           → (l : Bool) → nat_lt d.length b ≡ l
           → (b - d.length ≤ size_of (good_front r whole (with_run past d) rest) → cut_pieces (b - d.length) rest ≡ cut_pieces (b - d.length) (good_front r whole (with_run past d) rest))
@@ -120,6 +128,7 @@ new_again r past part block (suc n) = choose (is_new r past (addr part block)) r
   where
     step : (m : ℕ) (b : Bool) → is_new r past (addr part block) ≡ b → new_blocks r past part block (suc m) ≡ cond b (suc (new_blocks r past part (block + 1) m)) 0
     step m b e = ap (λ t. cond t (suc (new_blocks r past part (block + 1) m)) 0) e
+
     choose : (b : Bool) → is_new r past (addr part block) ≡ b → new_blocks r past part (block + 1) (new_blocks r past part (block + 1) n) ≡ new_blocks r past part (block + 1) n
         → new_blocks r past part block (cond b (suc (new_blocks r past part (block + 1) n)) 0) ≡ cond b (suc (new_blocks r past part (block + 1) n)) 0
     choose true e on = step (new_blocks r past part (block + 1) n) true e ∙ ap suc on
@@ -133,12 +142,15 @@ module _ (r : Rules) (whole : Addr → Bool) (some : 0 < r.size) where
       and_rest : (a : Bool) → a ≡ true → (a && (is_hole d || (new_in r past d == blocks_for r.size d.length))) ≡ false → (is_hole d || (new_in r past d == blocks_for r.size d.length)) ≡ false
       and_rest true e h = h
       and_rest false e h = absurd (cc)
+
       apart : (m n : ℕ) → (m == n) ≡ false → m ≤ n → m < n
       apart m n e h = grind (arith, nat_tests)
+
       fewer : (a c : Bool) → (new_in r past d == blocks_for r.size d.length) ≡ c → (a || c) ≡ false → new_in r past d < blocks_for r.size d.length
       fewer true c e h = absurd (cc)
       fewer false true e h = absurd (cc)
       fewer false false e h = apart (new_in r past d) (blocks_for r.size d.length) e (new_few r past d.at.part d.at.block (blocks_for r.size d.length))
+
       passes : may_come r past d ≡ true → run_passes r past (record d { length = new_in r past d * r.size }) ≡ true
       passes come =
           let c = comes r past d come in
@@ -147,6 +159,7 @@ module _ (r : Rules) (whole : Addr → Bool) (some : 0 < r.size) where
           let m = front_blocks r.size (new_in r past d) some in
           passes_from r past (record d { length = new_in r past d * r.size }) (record { late = c.late; small = omega (arith, c.small, s); kept = c.kept })
           (inr (ap (new_blocks r past d.at.part d.at.block) m ∙ new_again r past d.at.part d.at.block (blocks_for r.size d.length) ∙ sym m))
+
       one : (z : Bool) → may_come r past d ≡ true → is_good r whole past (blocks_each (cond z [] (record d { length = new_in r past d * r.size } ∷ []))) ≡ true
       one true come = refl
       one false come = and_both (run_passes r past (record d { length = new_in r past d * r.size })) true (passes come) refl
@@ -154,6 +167,7 @@ module _ (r : Rules) (whole : Addr → Bool) (some : 0 < r.size) where
           and_both : (a b : Bool) → a ≡ true → b ≡ true → (a && b) ≡ true
           and_both true b e f = f
           and_both false b e f = e
+
       by_come : (c : Bool) → may_come r past d ≡ c → is_good r whole past (blocks_each (cond c (front_of r.size d (new_in r past d)) [])) ≡ true
       by_come true e = one (new_in r past d == 0) e
       by_come false e = refl
@@ -182,7 +196,7 @@ module _ (r : Rules) (whole : Addr → Bool) (some : 0 < r.size) where
       → HasRoom r nothing_yet b (good_front r whole nothing_yet (pieces (further at n) ds)) → ComeOnce at n b ds
       → ((x : Addr) → IsAmong x (cut_pieces b (good_front r whole nothing_yet (pieces (further at n) ds))) → whole x ≡ other x)
       → good_front (with_information r b) other nothing_yet (pieces (further (trimmed at n b ds) n) (trim b ds))
-        ≡ cut_pieces b (good_front r whole nothing_yet (pieces (further at n) ds))
+      ≡ cut_pieces b (good_front r whole nothing_yet (pieces (further at n) ds))
   cut_reads other at n ds b p h q room once agree =
       let ps = pieces (further at n) ds in
       let xs = good_front r whole nothing_yet ps in

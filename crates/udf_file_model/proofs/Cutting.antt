@@ -1,15 +1,11 @@
 -- A body that is cut has the trimmed descriptors.
-use Rattle.std.proofs.Common.{◌≡◌, ℕ, zero, suc, Bool, true, false, cond, ◌+◌, ◌-◌, ◌*◌, ◌/◌, ◌<◌, ◌≤◌, ◌==◌, nat_lt, ◌⊎◌, inl, inr, Option, Some, None, List, [], ◌∷◌, length, take, arith, sym, ◌∙◌, ap, refl, subst}
+use Rattle.std.proofs.Common.{◌≡◌, ℕ, Bool, true, false, cond, ◌<◌, ◌≤◌, ◌==◌, Option, Some, None, List, [], length, arith, sym, ◌∙◌, ap, refl, subst}
 use Rattle.std.proofs.lemmas.Bool.Decides.{nat_tests}
-use Rattle.std.proofs.lemmas.List.{length-take-le, length-take}
 use Rattle.udf_field.specs.declared.address.Addr.{Addr}
-use Rattle.udf_field.specs.FieldView.{short_at, long_at}
-use Rattle.udf_model.specs.Bytes.{IsBytes, number_at, with_number}
-use Rattle.udf_model.proofs.Written.{number_length, number_is_bytes}
-use Rattle.udf_model.proofs.Parts.{take_is_bytes}
-use Rattle.udf_file_model.specs.Descriptors.{Descriptor, of_short, of_long, descriptor_at, descriptor_count, descriptors_from, descriptors}
-use Rattle.udf_file_model.specs.Pieces.{Piece, bytes_in, pieces}
-use Rattle.udf_file_model.specs.CutBody.{width_of, with_length, with_last, kept_count, last_length, first_of, cut_body_by, cut_body, cut_descriptors}
+use Rattle.udf_model.specs.Bytes.{IsBytes}
+use Rattle.udf_file_model.specs.Descriptors.{Descriptor, descriptor_at, descriptor_count, descriptors_from, descriptors}
+use Rattle.udf_file_model.specs.Pieces.{bytes_in}
+use Rattle.udf_file_model.specs.CutBody.{kept_count, last_length, first_of, cut_body_by, cut_body, cut_descriptors}
 use Rattle.udf_file_model.specs.Cut.{trim, Onward, onward}
 use Rattle.udf_file_model.proofs.Trim.{trim_stays, IsInside}
 use Rattle.udf_file_model.proofs.First.{shorts, longs, short_cut, long_cut, short_shorter, long_shorter, first_is_bytes}
@@ -23,10 +19,13 @@ none_in_empty kind holder = choose (kind == 0) (kind == 1) refl refl
   where
     shorts_none : descriptors 0 holder [] ≡ []
     shorts_none = unfold descriptors descriptor_count descriptors_from in refl
+
     longs_none : descriptors 1 holder [] ≡ []
     longs_none = unfold descriptors descriptor_count descriptors_from in refl
+
     number : (a b : ℕ) → (a == b) ≡ true → a ≡ b
     number a b t = grind (arith, nat_tests)
+
     choose : (a b : Bool) → (kind == 0) ≡ a → (kind == 1) ≡ b → descriptors kind holder [] ≡ []
     choose true b e f = ap (λ k. descriptors k holder []) (number kind 0 e) ∙ shorts_none
     choose false true e f = ap (λ k. descriptors k holder []) (number kind 1 f) ∙ longs_none
@@ -41,6 +40,7 @@ module _ (holder : Addr) (b : ℕ) (body : List ℕ) (all : IsBytes body) where
       Goal : ℕ → Type 0
       Goal k = 0 < b → b ≤ bytes_in (descriptors k holder body) → onward b (descriptors k holder body) ≡ None
           → descriptors k holder (first_of k (kept_count b (descriptors k holder body)) (last_length b (descriptors k holder body)) body) ≡ trim b (descriptors k holder body)
+
       of_shorts : 0 < b → b ≤ bytes_in (descriptors 0 holder body) → onward b (descriptors 0 holder body) ≡ None
           → descriptors 0 holder (first_of 0 (kept_count b (descriptors 0 holder body)) (last_length b (descriptors 0 holder body)) body) ≡ trim b (descriptors 0 holder body)
       of_shorts s w e =
@@ -49,6 +49,7 @@ module _ (holder : Addr) (b : ℕ) (body : List ℕ) (all : IsBytes body) where
           let Q : List Descriptor → Type 0 = λ l. descriptors 0 holder (first_of 0 (kept_count b l) (last_length b l) body) ≡ trim b l in
           let i : IsInside b (descriptors 0 holder body) = record { some = s; within = w; ends = e } in
           subst Q (sym same) (short_cut holder b body all (subst P same i))
+
       of_longs : 0 < b → b ≤ bytes_in (descriptors 1 holder body) → onward b (descriptors 1 holder body) ≡ None
           → descriptors 1 holder (first_of 1 (kept_count b (descriptors 1 holder body)) (last_length b (descriptors 1 holder body)) body) ≡ trim b (descriptors 1 holder body)
       of_longs s w e =
@@ -57,8 +58,10 @@ module _ (holder : Addr) (b : ℕ) (body : List ℕ) (all : IsBytes body) where
           let Q : List Descriptor → Type 0 = λ l. descriptors 1 holder (first_of 1 (kept_count b l) (last_length b l) body) ≡ trim b l in
           let i : IsInside b (descriptors 1 holder body) = record { some = s; within = w; ends = e } in
           subst Q (sym same) (long_cut holder b body all (subst P same i))
+
       number : (x y : ℕ) → (x == y) ≡ true → x ≡ y
       number x y t = grind (arith, nat_tests)
+
       choose : (x y : Bool) → (kind == 0) ≡ x → (kind == 1) ≡ y
           → descriptors kind holder (first_of kind (kept_count b (descriptors kind holder body)) (last_length b (descriptors kind holder body)) body) ≡ trim b (descriptors kind holder body)
       choose true y e f =
@@ -79,10 +82,12 @@ module _ (holder : Addr) (b : ℕ) (body : List ℕ) (all : IsBytes body) where
     where
       positive : (b == 0) ≡ false → 0 < b
       positive e = grind (arith, nat_tests)
+
       by_onward : 0 < b → (q : Option Onward) → onward b (descriptors kind holder body) ≡ q
           → descriptors kind holder (cut_body_by kind b (descriptors kind holder body) body q) ≡ trim b (descriptors kind holder body)
       by_onward s None e = first_descriptors kind s (within e) e
       by_onward s (Some o) e = sym (trim_stays (descriptors kind holder body) b o e)
+
       choose : (t : Bool) → (b == 0) ≡ t
           → descriptors kind holder (cond t [] (cut_body_by kind b (descriptors kind holder body) body (onward b (descriptors kind holder body)))) ≡ cond t [] (trim b (descriptors kind holder body))
       choose true e = none_in_empty kind holder
@@ -100,6 +105,7 @@ module _ (holder : Addr) (b : ℕ) (body : List ℕ) (all : IsBytes body) where
           let Q : List Descriptor → Type 0 = λ l. length (first_of 0 (kept_count b l) (last_length b l) body) ≤ length body in
           let i : IsInside b (descriptors 0 holder body) = record { some = s; within = w; ends = e } in
           subst Q (sym same) (short_shorter holder b body all (subst P same i))
+
       of_longs : 0 < b → b ≤ bytes_in (descriptors 1 holder body) → onward b (descriptors 1 holder body) ≡ None
           → length (first_of 1 (kept_count b (descriptors 1 holder body)) (last_length b (descriptors 1 holder body)) body) ≤ length body
       of_longs s w e =
@@ -108,8 +114,10 @@ module _ (holder : Addr) (b : ℕ) (body : List ℕ) (all : IsBytes body) where
           let Q : List Descriptor → Type 0 = λ l. length (first_of 1 (kept_count b l) (last_length b l) body) ≤ length body in
           let i : IsInside b (descriptors 1 holder body) = record { some = s; within = w; ends = e } in
           subst Q (sym same) (long_shorter holder b body all (subst P same i))
+
       number : (x y : ℕ) → (x == y) ≡ true → x ≡ y
       number x y t = grind (arith, nat_tests)
+
       choose : (x y : Bool) → (kind == 0) ≡ x → (kind == 1) ≡ y
           → length (first_of kind (kept_count b (descriptors kind holder body)) (last_length b (descriptors kind holder body)) body) ≤ length body
       choose true y e f =
@@ -130,10 +138,12 @@ module _ (holder : Addr) (b : ℕ) (body : List ℕ) (all : IsBytes body) where
     where
       positive : (b == 0) ≡ false → 0 < b
       positive e = grind (arith, nat_tests)
+
       by_onward : 0 < b → (q : Option Onward) → onward b (descriptors kind holder body) ≡ q
           → length (cut_body_by kind b (descriptors kind holder body) body q) ≤ length body
       by_onward s None e = first_shorter kind s (within e) e
       by_onward s (Some o) e = omega arith
+
       choose : (t : Bool) → (b == 0) ≡ t → length (cond t [] (cut_body_by kind b (descriptors kind holder body) body (onward b (descriptors kind holder body)))) ≤ length body
       choose true e = omega arith
       choose false e = by_onward (positive e) (onward b (descriptors kind holder body)) refl
@@ -144,9 +154,11 @@ module _ (holder : Addr) (b : ℕ) (body : List ℕ) (all : IsBytes body) where
     where
       none : IsBytes []
       none i = omega arith
+
       by_onward : (q : Option Onward) → IsBytes (cut_body_by kind b (descriptors kind holder body) body q)
       by_onward None = first_is_bytes kind (kept_count b (descriptors kind holder body)) (last_length b (descriptors kind holder body)) body all
       by_onward (Some o) = all
+
       choose : (t : Bool) → IsBytes (cond t [] (cut_body_by kind b (descriptors kind holder body) body (onward b (descriptors kind holder body))))
       choose true = none
       choose false = by_onward (onward b (descriptors kind holder body))

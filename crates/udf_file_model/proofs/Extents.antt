@@ -1,7 +1,6 @@
 -- An allocation extent with other descriptors is read with them.
-use Rattle.std.proofs.Common.{◌≡◌, ℕ, Bool, true, false, cond, ◌+◌, ◌-◌, ◌^◌, ◌<◌, ◌≤◌, ◌==◌, ◌&&◌, nat_le, inl, inr, Option, Some, None, List, [], ◌∷◌, length, take, drop, arith, sym, ◌∙◌, ap, refl, subst}
+use Rattle.std.proofs.Common.{◌≡◌, ℕ, Bool, true, false, cond, ◌+◌, ◌^◌, ◌<◌, ◌≤◌, ◌==◌, ◌&&◌, nat_le, inl, Some, None, List, length, take, drop, arith, sym, ◌∙◌, ap, refl}
 use Rattle.std.proofs.lemmas.Bool.Decides.{nat_tests}
-use Rattle.std.proofs.lemmas.Bool.{and_from}
 use Rattle.std.proofs.lemmas.List.{drop-drop, length-take-le, length-drop}
 use Rattle.udf_model.specs.Bytes.{IsBytes, number_at, with_number, written_at}
 use Rattle.udf_model.specs.Tag.{id_at, is_id, identifier, is_whole, location, retagged}
@@ -9,7 +8,6 @@ use Rattle.udf_model.proofs.Retagged.{retagged_body, retagged_id, retagged_lengt
 use Rattle.udf_model.proofs.Written.{number_apart, number_back, number_length, number_stays, number_is_bytes, written_back, written_is_bytes, written_length}
 use Rattle.udf_file_model.specs.Entry.{extent_body}
 use Rattle.udf_file_model.proofs.Numbers.{number_retagged}
-use Rattle.udf_file_model.proofs.CutLaws.{both}
 use Rattle.udf_file_model.specs.CutBody.{extent_with}
 
 -- what a whole allocation extent is known by
@@ -24,12 +22,16 @@ extent_opened at block old e = choose (is_whole block && (location block == at))
   where
     no_some : None ≡ Some old → ⊥
     no_some e = cc
+
     same : (x : List ℕ) → Some x ≡ Some old → x ≡ old
     same x e = cc
+
     number : (a b : ℕ) → (a == b) ≡ true → a ≡ b
     number a b t = grind (arith, nat_tests)
+
     below : (a b : ℕ) → nat_le a b ≡ true → a ≤ b
     below a b t = grind (arith, nat_tests)
+
     by_id : (i : Bool) → (identifier block == 258) ≡ i → (r : Bool) → nat_le (24 + number_at 4 block 20) (length block) ≡ r
         → cond (i && r) (Some (take (number_at 4 block 20) (drop 24 block))) None ≡ Some old → OpenExtent block old
     by_id true p true q e =
@@ -39,6 +41,7 @@ extent_opened at block old e = choose (is_whole block && (location block == at))
         record { named = number (identifier block) 258 p; room = omega (arith, fit, ap length s, long); bytes = sym long ∙ ap length s }
     by_id true p false q e = absurd (no_some e)
     by_id false p r q e = absurd (no_some e)
+
     choose : (t r : Bool) → nat_le (24 + number_at 4 block 20) (length block) ≡ r
         → cond (is_id 258 (cond t (Some (identifier block)) None) && r) (Some (take (number_at 4 block 20) (drop 24 block))) None ≡ Some old → OpenExtent block old
     choose false r q e = absurd (no_some e)
@@ -69,9 +72,9 @@ module _ (at : ℕ) (body block old : List ℕ) (all : IsBytes block) (most : le
   new_id =
       retagged_id at (8 + length body) area area_is_bytes (omega (arith, area_length, open_.room)) (omega (arith, open_.room, most)) low
       ∙ ap Some (
-        number_apart 24 (length body) 2 0 body numbered refl (omega (arith, numbered_length, open_.room)) (inl (omega arith))
-        ∙ number_stays 4 20 (length body) 2 0 block (omega (arith, open_.room)) (inl (omega arith))
-        ∙ open_.named)
+      number_apart 24 (length body) 2 0 body numbered refl (omega (arith, numbered_length, open_.room)) (inl (omega arith))
+      ∙ number_stays 4 20 (length body) 2 0 block (omega (arith, open_.room)) (inl (omega arith))
+      ∙ open_.named)
 
   new_bytes : number_at 4 new 20 ≡ length body
   unfolding extent_with
@@ -88,9 +91,9 @@ module _ (at : ℕ) (body block old : List ℕ) (all : IsBytes block) (most : le
   unfolding extent_with
   there =
       ap (take (length body)) (
-        sym (drop-drop 8 16 (retagged at (8 + length body) area))
-        ∙ ap (drop 8) (retagged_body at (8 + length body) area (omega (arith, area_length, open_.room)))
-        ∙ drop-drop 8 16 area)
+      sym (drop-drop 8 16 (retagged at (8 + length body) area))
+      ∙ ap (drop 8) (retagged_body at (8 + length body) area (omega (arith, area_length, open_.room)))
+      ∙ drop-drop 8 16 area)
       ∙ written_back 24 (length body) body numbered refl (omega (arith, numbered_length, open_.room))
 
   -- the extent is read with its new descriptors

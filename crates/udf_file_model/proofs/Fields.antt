@@ -41,14 +41,19 @@ fields_read (f ∷ fs) block m from v h e = choose (f.at == from) (f.width == m)
   where
     inner : List ℕ
     inner = with_fields fs block
+
     long : length (with_fields fs block) ≡ length block
     long = fields_length fs block h.2
+
     number : (a b : ℕ) → (a == b) ≡ true → a ≡ b
     number a b t = grind (arith, nat_tests)
+
     below : (a b : ℕ) → nat_le a b ≡ true → a ≤ b
     below a b t = grind (arith, nat_tests)
+
     no_some : None ≡ Some v → ⊥
     no_some e = cc
+
     here : f.at ≡ from → f.width ≡ m → Some f.value ≡ Some v → number_at m (with_number f.width f.at f.value (with_fields fs block)) from ≡ v
     here p q e =
         let same : f.value ≡ v = cc in
@@ -56,8 +61,10 @@ fields_read (f ∷ fs) block m from v h e = choose (f.at == from) (f.width == m)
         ∙ ap (λ k. number_at k (with_number f.width f.at f.value (with_fields fs block)) f.at) (sym q)
         ∙ number_back f.width f.at f.value (with_fields fs block) (omega (arith, long, h.0)) h.1
         ∙ same
+
     away : (from + m ≤ f.at) ⊎ (f.at + f.width ≤ from) → number_at m (with_fields fs block) from ≡ v → number_at m (with_number f.width f.at f.value (with_fields fs block)) from ≡ v
     away o r = number_stays f.width f.at f.value m from (with_fields fs block) (omega (arith, long, h.0)) o ∙ r
+
     past : (x y : Bool) → nat_le (from + m) f.at ≡ x → nat_le (f.at + f.width) from ≡ y
         → cond (x || y) (read_in m from fs (number_at m block from)) None ≡ Some v
         → (read_in m from fs (number_at m block from) ≡ Some v → number_at m (with_fields fs block) from ≡ v)
@@ -65,6 +72,7 @@ fields_read (f ∷ fs) block m from v h e = choose (f.at == from) (f.width == m)
     past true y p q e on = away (inl (below (from + m) f.at p)) (on e)
     past false true p q e on = away (inr (below (f.at + f.width) from q)) (on e)
     past false false p q e on = absurd (no_some e)
+
     choose : (a b x y : Bool) → (f.at == from) ≡ a → (f.width == m) ≡ b → nat_le (from + m) f.at ≡ x → nat_le (f.at + f.width) from ≡ y
         → cond (a && b) (Some f.value) (cond (x || y) (read_in m from fs (number_at m block from)) None) ≡ Some v
         → (read_in m from fs (number_at m block from) ≡ Some v → number_at m (with_fields fs block) from ≡ v)

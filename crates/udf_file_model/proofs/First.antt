@@ -1,5 +1,5 @@
 -- The first descriptors of a body, the last of them with another length.
-use Rattle.std.proofs.Common.{◌≡◌, ℕ, zero, suc, Bool, true, false, cond, ◌+◌, ◌-◌, ◌*◌, ◌/◌, ◌%◌, ◌^◌, ◌<◌, ◌≤◌, ◌==◌, ◌⊎◌, inl, inr, Option, Some, None, List, [], ◌∷◌, length, take, get_or, arith, sym, ◌∙◌, ap, refl, subst}
+use Rattle.std.proofs.Common.{◌≡◌, ℕ, Bool, true, false, cond, ◌+◌, ◌-◌, ◌*◌, ◌/◌, ◌%◌, ◌^◌, ◌<◌, ◌≤◌, ◌==◌, ◌⊎◌, inl, inr, List, length, take, arith, sym, ◌∙◌, ap}
 use Rattle.std.proofs.lemmas.Bool.Decides.{nat_tests}
 use Rattle.std.proofs.lemmas.List.{length-take-le, get_or-take}
 use Rattle.udf_field.specs.declared.address.Addr.{Addr}
@@ -8,10 +8,9 @@ use Rattle.udf_model.specs.Bytes.{IsBytes, number_at, with_number}
 use Rattle.udf_model.proofs.Written.{number_length, number_back, number_stays, number_fits, number_is_bytes, same_number}
 use Rattle.udf_model.proofs.Parts.{take_is_bytes}
 use Rattle.udf_file_model.specs.Descriptors.{Descriptor, addr, of_short, of_long, descriptor_at, descriptor_count, descriptors_from, descriptors}
-use Rattle.udf_file_model.specs.Pieces.{bytes_in}
-use Rattle.udf_file_model.specs.CutBody.{width_of, with_length, with_last, kept_count, last_length, first_of, cut_body_by, cut_body}
-use Rattle.udf_file_model.specs.Cut.{trim, Onward, onward}
-use Rattle.udf_file_model.proofs.Trim.{trim_stays, IsInside, count_some, kept_within, last_below, HasFirst, trim_from}
+use Rattle.udf_file_model.specs.CutBody.{width_of, with_length, with_last, kept_count, last_length, first_of}
+use Rattle.udf_file_model.specs.Cut.{trim}
+use Rattle.udf_file_model.proofs.Trim.{IsInside, count_some, kept_within, last_below, HasFirst, trim_from}
 
 -- a front of a body in which one number is new
 module _ (t p v : ℕ) (body : List ℕ) (inside : p + 4 ≤ t) (within : t ≤ length body) where
@@ -57,47 +56,47 @@ module _ (holder : Addr) (n last : ℕ) (body : List ℕ) (some : 0 < n) (small 
   unfolding make_short
   short_first room = record {
     before = λ j low high.
-      let a = part_stays (n * 8) ((n - 1) * 8) (stored ((n - 1) * 8) last body) body (omega arith) room 4 (8 * j) (omega arith) (inl (omega arith)) in
-      let b = part_stays (n * 8) ((n - 1) * 8) (stored ((n - 1) * 8) last body) body (omega arith) room 4 (8 * j + 4) (omega arith) (inl (omega arith)) in
-      ap (λ x. make_short holder j (x / 2 ^ 30) (x % 2 ^ 30) (number_at 4 (front 8) (8 * j + 4))) a
-      ∙ ap (λ x. make_short holder j (number_at 4 body (8 * j) / 2 ^ 30) (number_at 4 body (8 * j) % 2 ^ 30) x) b;
+        let a = part_stays (n * 8) ((n - 1) * 8) (stored ((n - 1) * 8) last body) body (omega arith) room 4 (8 * j) (omega arith) (inl (omega arith)) in
+        let b = part_stays (n * 8) ((n - 1) * 8) (stored ((n - 1) * 8) last body) body (omega arith) room 4 (8 * j + 4) (omega arith) (inl (omega arith)) in
+        ap (λ x. make_short holder j (x / 2 ^ 30) (x % 2 ^ 30) (number_at 4 (front 8) (8 * j + 4))) a
+        ∙ ap (λ x. make_short holder j (number_at 4 body (8 * j) / 2 ^ 30) (number_at 4 body (8 * j) % 2 ^ 30) x) b;
     end = λ j is.
-      let at : 8 * j ≡ (n - 1) * 8 = omega arith in
-      let a = part_there (n * 8) ((n - 1) * 8) (stored ((n - 1) * 8) last body) body (omega arith) room (stored_fits ((n - 1) * 8) last body all small) in
-      let b = part_stays (n * 8) ((n - 1) * 8) (stored ((n - 1) * 8) last body) body (omega arith) room 4 (8 * j + 4) (omega arith) (inr (omega arith)) in
-      let same : number_at 4 (front 8) (8 * j) ≡ stored ((n - 1) * 8) last body = ap (number_at 4 (front 8)) at ∙ a in
-      ap (λ x. make_short holder j (x / 2 ^ 30) (x % 2 ^ 30) (number_at 4 (front 8) (8 * j + 4))) same
-      ∙ ap (λ x. make_short holder j x (stored ((n - 1) * 8) last body % 2 ^ 30) (number_at 4 (front 8) (8 * j + 4)))
+        let at : 8 * j ≡ (n - 1) * 8 = omega arith in
+        let a = part_there (n * 8) ((n - 1) * 8) (stored ((n - 1) * 8) last body) body (omega arith) room (stored_fits ((n - 1) * 8) last body all small) in
+        let b = part_stays (n * 8) ((n - 1) * 8) (stored ((n - 1) * 8) last body) body (omega arith) room 4 (8 * j + 4) (omega arith) (inr (omega arith)) in
+        let same : number_at 4 (front 8) (8 * j) ≡ stored ((n - 1) * 8) last body = ap (number_at 4 (front 8)) at ∙ a in
+        ap (λ x. make_short holder j (x / 2 ^ 30) (x % 2 ^ 30) (number_at 4 (front 8) (8 * j + 4))) same
+        ∙ ap (λ x. make_short holder j x (stored ((n - 1) * 8) last body % 2 ^ 30) (number_at 4 (front 8) (8 * j + 4)))
         (stored_kind ((n - 1) * 8) last body all small ∙ ap (λ k. number_at 4 body k / 2 ^ 30) (sym at))
-      ∙ ap (λ x. make_short holder j (number_at 4 body (8 * j) / 2 ^ 30) x (number_at 4 (front 8) (8 * j + 4))) (stored_bytes ((n - 1) * 8) last body all small)
-      ∙ ap (λ x. make_short holder j (number_at 4 body (8 * j) / 2 ^ 30) last x) b;
+        ∙ ap (λ x. make_short holder j (number_at 4 body (8 * j) / 2 ^ 30) x (number_at 4 (front 8) (8 * j + 4))) (stored_bytes ((n - 1) * 8) last body all small)
+        ∙ ap (λ x. make_short holder j (number_at 4 body (8 * j) / 2 ^ 30) last x) b;
   }
 
   long_first : n * 16 ≤ length body → HasFirst (λ j. of_long holder j (long_at body (16 * j))) (λ j. of_long holder j (long_at (front 16) (16 * j))) 0 n last
   unfolding make_long
   long_first room = record {
     before = λ j low high.
-      let s = part_stays (n * 16) ((n - 1) * 16) (stored ((n - 1) * 16) last body) body (omega arith) room in
-      let a = s 4 (16 * j) (omega arith) (inl (omega arith)) in
-      let b = s 4 (16 * j + 4) (omega arith) (inl (omega arith)) in
-      let c = s 2 (16 * j + 4 + 4) (omega arith) (inl (omega arith)) in
-      ap (λ x. make_long holder j (x / 2 ^ 30) (x % 2 ^ 30) (number_at 4 (front 16) (16 * j + 4)) (number_at 2 (front 16) (16 * j + 4 + 4))) a
-      ∙ ap (λ x. make_long holder j (number_at 4 body (16 * j) / 2 ^ 30) (number_at 4 body (16 * j) % 2 ^ 30) x (number_at 2 (front 16) (16 * j + 4 + 4))) b
-      ∙ ap (λ x. make_long holder j (number_at 4 body (16 * j) / 2 ^ 30) (number_at 4 body (16 * j) % 2 ^ 30) (number_at 4 body (16 * j + 4)) x) c;
+        let s = part_stays (n * 16) ((n - 1) * 16) (stored ((n - 1) * 16) last body) body (omega arith) room in
+        let a = s 4 (16 * j) (omega arith) (inl (omega arith)) in
+        let b = s 4 (16 * j + 4) (omega arith) (inl (omega arith)) in
+        let c = s 2 (16 * j + 4 + 4) (omega arith) (inl (omega arith)) in
+        ap (λ x. make_long holder j (x / 2 ^ 30) (x % 2 ^ 30) (number_at 4 (front 16) (16 * j + 4)) (number_at 2 (front 16) (16 * j + 4 + 4))) a
+        ∙ ap (λ x. make_long holder j (number_at 4 body (16 * j) / 2 ^ 30) (number_at 4 body (16 * j) % 2 ^ 30) x (number_at 2 (front 16) (16 * j + 4 + 4))) b
+        ∙ ap (λ x. make_long holder j (number_at 4 body (16 * j) / 2 ^ 30) (number_at 4 body (16 * j) % 2 ^ 30) (number_at 4 body (16 * j + 4)) x) c;
     end = λ j is.
-      let at : 16 * j ≡ (n - 1) * 16 = omega arith in
-      let a = part_there (n * 16) ((n - 1) * 16) (stored ((n - 1) * 16) last body) body (omega arith) room (stored_fits ((n - 1) * 16) last body all small) in
-      let s = part_stays (n * 16) ((n - 1) * 16) (stored ((n - 1) * 16) last body) body (omega arith) room in
-      let b = s 4 (16 * j + 4) (omega arith) (inr (omega arith)) in
-      let c = s 2 (16 * j + 4 + 4) (omega arith) (inr (omega arith)) in
-      let same : number_at 4 (front 16) (16 * j) ≡ stored ((n - 1) * 16) last body = ap (number_at 4 (front 16)) at ∙ a in
-      ap (λ x. make_long holder j (x / 2 ^ 30) (x % 2 ^ 30) (number_at 4 (front 16) (16 * j + 4)) (number_at 2 (front 16) (16 * j + 4 + 4))) same
-      ∙ ap (λ x. make_long holder j x (stored ((n - 1) * 16) last body % 2 ^ 30) (number_at 4 (front 16) (16 * j + 4)) (number_at 2 (front 16) (16 * j + 4 + 4)))
+        let at : 16 * j ≡ (n - 1) * 16 = omega arith in
+        let a = part_there (n * 16) ((n - 1) * 16) (stored ((n - 1) * 16) last body) body (omega arith) room (stored_fits ((n - 1) * 16) last body all small) in
+        let s = part_stays (n * 16) ((n - 1) * 16) (stored ((n - 1) * 16) last body) body (omega arith) room in
+        let b = s 4 (16 * j + 4) (omega arith) (inr (omega arith)) in
+        let c = s 2 (16 * j + 4 + 4) (omega arith) (inr (omega arith)) in
+        let same : number_at 4 (front 16) (16 * j) ≡ stored ((n - 1) * 16) last body = ap (number_at 4 (front 16)) at ∙ a in
+        ap (λ x. make_long holder j (x / 2 ^ 30) (x % 2 ^ 30) (number_at 4 (front 16) (16 * j + 4)) (number_at 2 (front 16) (16 * j + 4 + 4))) same
+        ∙ ap (λ x. make_long holder j x (stored ((n - 1) * 16) last body % 2 ^ 30) (number_at 4 (front 16) (16 * j + 4)) (number_at 2 (front 16) (16 * j + 4 + 4)))
         (stored_kind ((n - 1) * 16) last body all small ∙ ap (λ k. number_at 4 body k / 2 ^ 30) (sym at))
-      ∙ ap (λ x. make_long holder j (number_at 4 body (16 * j) / 2 ^ 30) x (number_at 4 (front 16) (16 * j + 4)) (number_at 2 (front 16) (16 * j + 4 + 4)))
+        ∙ ap (λ x. make_long holder j (number_at 4 body (16 * j) / 2 ^ 30) x (number_at 4 (front 16) (16 * j + 4)) (number_at 2 (front 16) (16 * j + 4 + 4)))
         (stored_bytes ((n - 1) * 16) last body all small)
-      ∙ ap (λ x. make_long holder j (number_at 4 body (16 * j) / 2 ^ 30) last x (number_at 2 (front 16) (16 * j + 4 + 4))) b
-      ∙ ap (λ x. make_long holder j (number_at 4 body (16 * j) / 2 ^ 30) last (number_at 4 body (16 * j + 4)) x) c;
+        ∙ ap (λ x. make_long holder j (number_at 4 body (16 * j) / 2 ^ 30) last x (number_at 2 (front 16) (16 * j + 4 + 4))) b
+        ∙ ap (λ x. make_long holder j (number_at 4 body (16 * j) / 2 ^ 30) last (number_at 4 body (16 * j + 4)) x) c;
   }
 
   some_test : (n == 0) ≡ false
@@ -143,7 +142,7 @@ module _ (holder : Addr) (b : ℕ) (body : List ℕ) (all : IsBytes body) where
       ap (λ xs. descriptors_from (λ j. of_short holder j (short_at xs (8 * j))) 0 (length xs / 8)) (first_short holder n last body some small all)
       ∙ ap (descriptors_from (λ j. of_short holder j (short_at (front holder n last body some small all 8) (8 * j))) 0) many
       ∙ trim_from (λ j. of_short holder j (short_at body (8 * j))) (λ j. of_short holder j (short_at (front holder n last body some small all 8) (8 * j))) (length body / 8) 0 b h
-        (short_first holder n last body some small all room)
+      (short_first holder n last body some small all room)
 
   pub long_cut : IsInside b longs → descriptors 1 holder (first_of 1 (kept_count b longs) (last_length b longs) body) ≡ trim b longs
   unfolding descriptors descriptor_at descriptor_count
@@ -159,7 +158,7 @@ module _ (holder : Addr) (b : ℕ) (body : List ℕ) (all : IsBytes body) where
       ap (λ xs. descriptors_from (λ j. of_long holder j (long_at xs (16 * j))) 0 (length xs / 16)) (first_long holder n last body some small all)
       ∙ ap (descriptors_from (λ j. of_long holder j (long_at (front holder n last body some small all 16) (16 * j))) 0) many
       ∙ trim_from (λ j. of_long holder j (long_at body (16 * j))) (λ j. of_long holder j (long_at (front holder n last body some small all 16) (16 * j))) (length body / 16) 0 b h
-        (long_first holder n last body some small all room)
+      (long_first holder n last body some small all room)
 
   pub short_shorter : IsInside b shorts → length (first_of 0 (kept_count b shorts) (last_length b shorts) body) ≤ length body
   short_shorter h =
@@ -169,8 +168,12 @@ module _ (holder : Addr) (b : ℕ) (body : List ℕ) (all : IsBytes body) where
       let fits = kept_within (λ j. of_short holder j (short_at body (8 * j))) (length body / 8) 0 b h in
       let small = last_below (λ j. of_short holder j (short_at body (8 * j))) 1073741824 (length body / 8) 0 b small_length h in
       let room : n * 8 ≤ length body = omega (arith, fits) in
-      omega (arith, ap length (first_short holder n last body some small all),
-        part_length (n * 8) ((n - 1) * 8) (stored ((n - 1) * 8) last body) body (omega (arith, some)) room, room)
+      omega (
+        arith,
+        ap length (first_short holder n last body some small all),
+        part_length (n * 8) ((n - 1) * 8) (stored ((n - 1) * 8) last body) body (omega (arith, some)) room,
+        room,
+      )
 
   pub long_shorter : IsInside b longs → length (first_of 1 (kept_count b longs) (last_length b longs) body) ≤ length body
   long_shorter h =
@@ -180,8 +183,12 @@ module _ (holder : Addr) (b : ℕ) (body : List ℕ) (all : IsBytes body) where
       let fits = kept_within (λ j. of_long holder j (long_at body (16 * j))) (length body / 16) 0 b h in
       let small = last_below (λ j. of_long holder j (long_at body (16 * j))) 1073741824 (length body / 16) 0 b large_length h in
       let room : n * 16 ≤ length body = omega (arith, fits) in
-      omega (arith, ap length (first_long holder n last body some small all),
-        part_length (n * 16) ((n - 1) * 16) (stored ((n - 1) * 16) last body) body (omega (arith, some)) room, room)
+      omega (
+        arith,
+        ap length (first_long holder n last body some small all),
+        part_length (n * 16) ((n - 1) * 16) (stored ((n - 1) * 16) last body) body (omega (arith, some)) room,
+        room,
+      )
 
 pub first_is_bytes : (kind n last : ℕ) (body : List ℕ) → IsBytes body → IsBytes (first_of kind n last body)
 unfolding first_of with_last with_length

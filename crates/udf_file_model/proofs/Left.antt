@@ -1,6 +1,6 @@
 -- What a cut leaves of the allocation extents through which it goes.
-use Rattle.std.proofs.Common.{◌≡◌, ℕ, zero, suc, Bool, true, false, cond, ◌+◌, ◌-◌, ◌*◌, ◌<◌, ◌≤◌, ◌==◌, ◌&&◌, ◌||◌, nat_lt, inl, inr, Option, Some, None, List, [], ◌∷◌, arith, sym, ◌∙◌, ap, refl, subst}
-use Rattle.std.specs.Prelude.{is_some, not}
+use Rattle.std.proofs.Common.{◌≡◌, ℕ, zero, suc, Bool, true, false, cond, ◌+◌, ◌-◌, ◌<◌, ◌≤◌, ◌==◌, ◌||◌, nat_lt, inl, inr, Option, Some, None, List, [], ◌∷◌, arith, sym, ◌∙◌, ap, refl, subst}
+use Rattle.std.specs.Prelude.{not}
 use Rattle.std.proofs.lemmas.Bool.Decides.{nat_tests}
 use Rattle.udf_field.specs.declared.address.Addr.{Addr}
 use Rattle.udf_file_model.specs.Descriptors.{Descriptor}
@@ -48,8 +48,10 @@ onward_fits k (d ∷ ds) b o p h e = choose (d.kind == 3) (nat_lt d.length b) re
   where
     no_some : None ≡ Some o → ⊥
     no_some e = cc
+
     same : (z : Onward) → Some z ≡ Some o → z ≡ o
     same z e = cc
+
     choose : (m l : Bool) → (d.kind == 3) ≡ m → nat_lt d.length b ≡ l → cond m (Some (record { next = d.at; left = b })) (cond l (onward (b - d.length) ds) None) ≡ Some o
         → (0 < b - d.length → b - d.length ≤ size_of (pieces k ds) → onward (b - d.length) ds ≡ Some o → (0 < o.left) × (o.left ≤ size_of (k o.next)))
         → (0 < o.left) × (o.left ≤ size_of (k o.next))
@@ -72,6 +74,7 @@ inside_fits k (d ∷ ds) b p h e = choose (d.kind == 3) (nat_lt d.length b) refl
   where
     some_none : (z : Onward) → Some z ≡ None → ⊥
     some_none z e = cc
+
     choose : (m l : Bool) → (d.kind == 3) ≡ m → nat_lt d.length b ≡ l → cond m (Some (record { next = d.at; left = b })) (cond l (onward (b - d.length) ds) None) ≡ None
         → (0 < b - d.length → b - d.length ≤ size_of (pieces k ds) → onward (b - d.length) ds ≡ None → b - d.length ≤ bytes_in ds)
         → b ≤ d.length + bytes_in ds
@@ -99,8 +102,10 @@ left_fits at (suc n) b ds y l p h e = by_on (onward b ds) refl e (λ o x z w. le
   where
     no_some : None ≡ Some l → ⊥
     no_some e = cc
+
     same : (z : ℕ) → Some z ≡ Some l → z ≡ l
     same z e = cc
+
     by_on : (q : Option Onward) → onward b ds ≡ q → left_on y q (λ o. left_in at n o.left (at o.next) y) ≡ Some l
         → ((o : Onward) → 0 < o.left → o.left ≤ size_of (pieces (further at n) (at o.next)) → left_in at n o.left (at o.next) y ≡ Some l → FitsBody l (at y))
         → FitsBody l (at y)
@@ -109,8 +114,10 @@ left_fits at (suc n) b ds y l p h e = by_on (onward b ds) refl e (λ o x z w. le
       where
         fit : (0 < o.left) × (o.left ≤ size_of (further at (suc n) o.next))
         fit = onward_fits (further at (suc n)) ds b o p h q
+
         fits : o.left ≤ size_of (pieces (further at n) (at o.next))
         fits = omega (arith, fit.1, ap size_of (further_suc at n o.next))
+
         here : (t : Bool) → same_addr y o.next ≡ t → cond t (Some o.left) (left_in at n o.left (at o.next) y) ≡ Some l → FitsBody l (at y)
         here true t e =
             let P : ℕ → Type 0 = λ z. FitsBody z (at o.next) in
@@ -162,5 +169,5 @@ cut_is_read r whole some other at n ds b p h room agree =
     record {
       flat_is = flat_trim at n ds b p q (come_once r whole some at n ds nothing_yet b p h) ∙ cut_front r whole some ps nothing_yet b h;
       good = whole_agree (with_information r b) whole other (cut_pieces b xs) nothing_yet agree
-        (cut_good r whole some b xs nothing_yet b (good_good r whole some ps nothing_yet) zero_more room);
+          (cut_good r whole some b xs nothing_yet b (good_good r whole some ps nothing_yet) zero_more room);
     }

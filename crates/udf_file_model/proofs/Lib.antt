@@ -23,3 +23,4 @@ pub mod First
 pub mod Cutting
 pub mod Local
 pub mod CutList
+pub mod Apart

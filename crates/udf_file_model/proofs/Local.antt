@@ -1,12 +1,11 @@
 -- What a list rests on: the block of its entry, and its allocation extents.
-use Rattle.std.proofs.Common.{◌≡◌, ℕ, Bool, true, false, cond, ◌&&◌, ◌*◌, ◌==◌, ◌⊎◌, inl, inr, List, [], ◌∷◌, sym, ◌∙◌, ap, refl, subst}
+use Rattle.std.proofs.Common.{◌≡◌, ℕ, true, ◌*◌, List, [], sym, ◌∙◌, ap, refl, subst}
 use Rattle.std.specs.Prelude.{is_some}
-use Rattle.std.proofs.lemmas.Bool.Decides.{nat_tests}
 use Rattle.udf_field.specs.declared.address.Addr.{Addr}
 use Rattle.udf_file_model.specs.Entry.{Entry}
-use Rattle.udf_file_model.specs.Descriptors.{Descriptor, descriptors, descriptor_count, descriptors_from}
-use Rattle.udf_file_model.specs.Pieces.{Piece, Extent, Blocks, pieces, further, IsAmong, blocks_each}
-use Rattle.udf_file_model.specs.Front.{Rules, Past, nothing_yet, good_front, is_good, extent_passes, run_passes, run_front, with_extent, with_run, is_new}
+use Rattle.udf_file_model.specs.Descriptors.{descriptors, descriptor_count, descriptors_from}
+use Rattle.udf_file_model.specs.Pieces.{Piece, pieces, further, IsAmong}
+use Rattle.udf_file_model.specs.Front.{nothing_yet, good_front, is_good}
 use Rattle.udf_file_model.specs.Listing.{Volume, with_disk, extent_at, descriptors_by, descriptors_in, descriptors_of, is_extent, rules_for, flat_for, list_for, is_good_for}
 use Rattle.udf_file_model.proofs.Trimming.{flat_agree}
 use Rattle.udf_file_model.proofs.CutLaws.{good_all}

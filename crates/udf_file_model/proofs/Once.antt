@@ -1,9 +1,9 @@
 -- In a good front no allocation extent comes twice, so that a cut that ends in it may be made extent by extent.
-use Rattle.std.proofs.Common.{◌≡◌, ℕ, zero, suc, Bool, true, false, cond, not, ◌&&◌, ◌||◌, ◌+◌, ◌-◌, ◌*◌, ◌<◌, ◌≤◌, ◌==◌, ◌⊎◌, nat_lt, inl, inr, Option, Some, None, List, [], ◌∷◌, ◌++◌, arith, sym, ◌∙◌, ap, refl, subst}
+use Rattle.std.proofs.Common.{◌≡◌, ℕ, zero, suc, Bool, true, false, cond, ◌&&◌, ◌||◌, ◌+◌, ◌-◌, ◌*◌, ◌<◌, ◌≤◌, ◌==◌, ◌⊎◌, nat_lt, inl, inr, Some, None, List, [], ◌∷◌, arith, sym, ◌∙◌, ap, refl, subst}
 use Rattle.std.proofs.lemmas.Bool.Decides.{nat_tests}
 use Rattle.udf_field.specs.declared.address.Addr.{Addr}
 use Rattle.udf_file_model.specs.Descriptors.{Descriptor}
-use Rattle.udf_file_model.specs.Pieces.{Piece, Extent, Blocks, runs_of, bytes_in, blocks_each, pieces, further, IsAmong, size_of}
+use Rattle.udf_file_model.specs.Pieces.{Piece, Extent, Blocks, runs_of, blocks_each, pieces, further, IsAmong, size_of}
 use Rattle.udf_file_model.specs.Front.{Rules, Past, nothing_yet, may_come, is_hole, new_in, blocks_for, front_of, same_addr, stood, is_new, covers, run_passes, run_front, extent_passes, with_run, with_extent, good_front}
 use Rattle.udf_file_model.specs.Cut.{cut_pieces, trim, with_information, HasRoom, Onward, onward}
 use Rattle.udf_file_model.proofs.Trimmed.{trimmed, ComeOnce}
@@ -82,15 +82,19 @@ module _ (r : Rules) (whole : Addr → Bool) (some : 0 < r.size) where
       and_rest : (a : Bool) → a ≡ true → (a && (is_hole d || (new_in r past d == blocks_for r.size d.length))) ≡ false → (is_hole d || (new_in r past d == blocks_for r.size d.length)) ≡ false
       and_rest true e h = h
       and_rest false e h = absurd (cc)
+
       apart : (m n : ℕ) → (m == n) ≡ false → m ≤ n → m < n
       apart m n e h = grind (arith, nat_tests)
+
       fewer : (a c : Bool) → (new_in r past d == blocks_for r.size d.length) ≡ c → (a || c) ≡ false → new_in r past d < blocks_for r.size d.length
       fewer true c e h = absurd (cc)
       fewer false true e h = absurd (cc)
       fewer false false e h = apart (new_in r past d) (blocks_for r.size d.length) e (new_few r past d.at.part d.at.block (blocks_for r.size d.length))
+
       one : (z : Bool) → new_in r past d * r.size ≤ d.length → size_of (blocks_each (cond z [] (record d { length = new_in r past d * r.size } ∷ []))) ≤ d.length
       one true l = omega arith
       one false l = omega arith
+
       by_come : (c : Bool) → may_come r past d ≡ c → size_of (blocks_each (cond c (front_of r.size d (new_in r past d)) [])) ≤ d.length
       by_come true e =
           one (new_in r past d == 0)
@@ -161,12 +165,14 @@ module _ (r : Rules) (whole : Addr → Bool) (some : 0 < r.size) where
     where
       below : (m n : ℕ) → nat_lt m n ≡ true → m < n
       below m n h = grind (arith, nat_tests)
+
       by_length : (d.kind == 3) ≡ false → (l : Bool) → nat_lt d.length b ≡ l
           → (0 < b - d.length → b - d.length ≤ size_of (good_front r whole (with_run past d) (pieces k ds)) → onward (b - d.length) ds ≡ Some o → Reached k o) → Reached k o
       by_length f true g on =
           let l = below d.length b g in
           on (omega arith) (front_run past d (pieces k ds) b l (omega (arith, h, ap (λ z. size_of (good_front r whole past z)) (pieces_over k d ds f)))) (sym (onward_over b d ds f g) ∙ e)
       by_length f false g on = ends_here b d ds o f g e
+
       by_more : (m : Bool) → (d.kind == 3) ≡ m
           → (0 < b - d.length → b - d.length ≤ size_of (good_front r whole (with_run past d) (pieces k ds)) → onward (b - d.length) ds ≡ Some o → Reached k o) → Reached k o
       by_more true f on =
@@ -188,9 +194,10 @@ module _ (r : Rules) (whole : Addr → Bool) (some : 0 < r.size) where
       let w = reaches (further at (suc n)) ds past b o p h e in
       let rest = pieces (further at n) (at o.next) in
       let left : o.left ≤ size_of (good_front r whole w.past rest) = omega (arith, w.left, ap (λ z. size_of (good_front r whole w.past z)) (further_suc at n o.next)) in
-      let P : List Piece → Type 0 = λ l. IsAmong o.next l in
-      (λ i. not_again r whole rest w.past o.next w.seen (among_cut (good_front r whole w.past rest) o.left o.next (subst P (cut_front r whole some rest w.past o.left left) i)),
-       come_once at n (at o.next) w.past o.left w.more left)
+      let P : List Piece → Type 0 = λ l. IsAmong o.next l in (
+        λ i. not_again r whole rest w.past o.next w.seen (among_cut (good_front r whole w.past rest) o.left o.next (subst P (cut_front r whole some rest w.past o.left left) i)),
+        come_once at n (at o.next) w.past o.left w.more left,
+      )
 
   -- what a cut to b bytes leaves, of an entry and its allocation extents, reads as the cut list
   pub cut_list : (other : Addr → Bool) (at : Addr → List Descriptor) (n : ℕ) (ds : List Descriptor) (b : ℕ) → 0 < b
@@ -198,6 +205,6 @@ module _ (r : Rules) (whole : Addr → Bool) (some : 0 < r.size) where
       → HasRoom r nothing_yet b (good_front r whole nothing_yet (pieces (further at n) ds))
       → ((x : Addr) → IsAmong x (cut_pieces b (good_front r whole nothing_yet (pieces (further at n) ds))) → whole x ≡ other x)
       → good_front (with_information r b) other nothing_yet (pieces (further (trimmed at n b ds) n) (trim b ds))
-        ≡ cut_pieces b (good_front r whole nothing_yet (pieces (further at n) ds))
+      ≡ cut_pieces b (good_front r whole nothing_yet (pieces (further at n) ds))
   cut_list other at n ds b p h room agree =
       cut_reads r whole some other at n ds b p h (omega (arith, h, front_fits (pieces (further at n) ds) nothing_yet)) room (come_once at n ds nothing_yet b p h) agree

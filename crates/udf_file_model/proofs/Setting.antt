@@ -1,12 +1,11 @@
 -- Each call that sets one value leaves the others.
-use Rattle.std.proofs.Common.{◌≡◌, ℕ, Bool, true, false, ◌+◌, ◌-◌, ◌^◌, ◌<◌, ◌≤◌, Option, Some, None, List, length, take, drop, arith, sym, ◌∙◌, ap, refl}
+use Rattle.std.proofs.Common.{◌≡◌, ℕ, true, ◌+◌, ◌-◌, ◌^◌, ◌<◌, ◌≤◌, Some, List, length, drop, arith}
 use Rattle.std.proofs.lemmas.List.{length-take}
-use Rattle.udf_field.specs.declared.address.Addr.{Addr}
-use Rattle.udf_model.specs.Bytes.{IsBytes, number_at}
+use Rattle.udf_model.specs.Bytes.{IsBytes}
 use Rattle.udf_model.proofs.Parts.{take_is_bytes, drop_is_bytes}
 use Rattle.udf_model.proofs.Written.{number_fits}
 use Rattle.udf_file_model.specs.Entry.{attribute_bytes, descriptor_bytes, body_of, entry_header, Entry, entry_in, entry_of}
-use Rattle.udf_file_model.specs.Wanted.{Wanted, own, with_links, with_id, with_no_stream, with_cut, stream_left, entry_with, mended, Fits}
+use Rattle.udf_file_model.specs.Wanted.{own, with_links, with_id, with_no_stream, with_cut, stream_left, entry_with, Fits}
 use Rattle.udf_file_model.proofs.Back.{Opened, opened, new_entry}
 
 module _ (at header : ℕ) (block : List ℕ) (all : IsBytes block) (room : 216 ≤ length block) (most : length block ≤ 4096) (low : at < 2 ^ 32)

@@ -1,6 +1,5 @@
 -- What stood earlier, after one more run or extent; how many blocks are new.
 use Rattle.std.proofs.Common.{◌≡◌, ℕ, zero, suc, Bool, true, false, cond, not, ◌&&◌, ◌||◌, ◌+◌, ◌-◌, ◌<◌, ◌≤◌, ◌==◌, nat_lt, nat_le, List, [], ◌∷◌, ◌++◌, arith, sym, ◌∙◌, ap, refl}
-use Rattle.std.specs.Prelude.{is_some}
 use Rattle.std.specs.List.{list_any}
 use Rattle.std.proofs.lemmas.Bool.Decides.{nat_tests}
 use Rattle.udf_field.specs.declared.address.Addr.{Addr}
@@ -118,6 +117,7 @@ new_each r past part block (suc n) k h = choose (is_new r past (addr part block)
   where
     same : (x : ℕ) → x + 0 ≡ x
     same x = omega arith
+
     choose : (b : Bool) → is_new r past (addr part block) ≡ b → (k : ℕ) → k < cond b (suc (new_blocks r past part (block + 1) n)) 0
         → ((j : ℕ) → j < new_blocks r past part (block + 1) n → is_new r past (addr part (block + 1 + j)) ≡ true)
         → is_new r past (addr part (block + k)) ≡ true

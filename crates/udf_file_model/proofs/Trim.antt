@@ -1,17 +1,9 @@
 -- The descriptors of a cut body are the trimmed descriptors.
-use Rattle.std.proofs.Common.{◌≡◌, ℕ, zero, suc, Bool, true, false, cond, ◌+◌, ◌-◌, ◌*◌, ◌/◌, ◌%◌, ◌^◌, ◌<◌, ◌≤◌, ◌==◌, nat_lt, ◌⊎◌, inl, inr, Option, Some, None, List, [], ◌∷◌, length, take, drop, get_or, arith, sym, ◌∙◌, ap, refl, subst}
+use Rattle.std.proofs.Common.{◌≡◌, ℕ, zero, suc, Bool, true, false, cond, ◌+◌, ◌-◌, ◌<◌, ◌≤◌, ◌==◌, nat_lt, Some, None, List, [], ◌∷◌, arith, sym, ◌∙◌, ap, refl, subst}
 use Rattle.std.proofs.lemmas.Bool.Decides.{nat_tests}
-use Rattle.std.proofs.lemmas.List.{length-take-le, get_or-take}
-use Rattle.udf_field.specs.declared.address.Addr.{Addr}
-use Rattle.udf_field.specs.declared.address.Short.{Short}
-use Rattle.udf_field.specs.declared.address.Long.{Long}
-use Rattle.udf_field.specs.FieldView.{short_at, long_at}
-use Rattle.udf_model.specs.Bytes.{IsBytes, number_at, with_number}
-use Rattle.udf_model.proofs.Written.{number_length, number_back, number_stays, number_fits, number_is_bytes, same_number}
-use Rattle.udf_model.proofs.Parts.{take_is_bytes}
-use Rattle.udf_file_model.specs.Descriptors.{Descriptor, of_short, of_long, descriptor_at, descriptor_count, descriptors_from, descriptors}
+use Rattle.udf_file_model.specs.Descriptors.{Descriptor, descriptors_from}
 use Rattle.udf_file_model.specs.Pieces.{bytes_in}
-use Rattle.udf_file_model.specs.CutBody.{width_of, with_length, with_last, kept_count, last_length, first_of, cut_body_by, cut_body}
+use Rattle.udf_file_model.specs.CutBody.{kept_count, last_length}
 use Rattle.udf_file_model.specs.Cut.{trim, Onward, onward}
 
 some_is_none : (o : Onward) → Some o ≡ None → ⊥
@@ -25,6 +17,7 @@ trim_stays (d ∷ ds) b o e = choose (d.kind == 3) (nat_lt d.length b) e (λ x. 
   where
     none_is_some : None ≡ Some o → ⊥
     none_is_some e = cc
+
     choose : (k l : Bool) → cond k (Some (record { next = d.at; left = b })) (cond l (onward (b - d.length) ds) None) ≡ Some o
         → (onward (b - d.length) ds ≡ Some o → trim (b - d.length) ds ≡ ds)
         → cond k (d ∷ ds) (cond l (d ∷ trim (b - d.length) ds) (record d { length = b } ∷ [])) ≡ d ∷ ds
@@ -75,6 +68,7 @@ inside b d ds h = choose (d.kind == 3) (nat_lt d.length b) refl refl h.ends
   where
     below : (m n : ℕ) → nat_lt m n ≡ true → m < n
     below m n h = grind (arith, nat_tests)
+
     choose : (k l : Bool) → (d.kind == 3) ≡ k → nat_lt d.length b ≡ l → cond k (Some (record { next = d.at; left = b })) (cond l (onward (b - d.length) ds) None) ≡ None → Inside b d ds
     choose true l p q e = absurd (some_is_none (record { next = d.at; left = b }) e)
     choose false true p q e =
@@ -119,11 +113,13 @@ module _ (at : ℕ → Descriptor) where
     where
       rest : List Descriptor
       rest = descriptors_from at (i + 1) n
+
       by_inside : ((at i).length == 0) ≡ false → Inside b (at i) (descriptors_from at (i + 1) n)
           → (IsInside (b - (at i).length) (descriptors_from at (i + 1) n) → kept_count (b - (at i).length) (descriptors_from at (i + 1) n) ≤ n)
           → kept_count b (descriptors_from at i (suc n)) ≤ suc n
       by_inside e (Over k l x) on = let z = ap (kept_count b) (from_some i n e) ∙ count_over b (at i) (descriptors_from at (i + 1) n) l in omega (arith, z, on x)
       by_inside e (Last k l) on = let z = ap (kept_count b) (from_some i n e) ∙ count_last b (at i) (descriptors_from at (i + 1) n) l in omega (arith, z)
+
       choose : (t : Bool) → ((at i).length == 0) ≡ t
           → (IsInside (b - (at i).length) (descriptors_from at (i + 1) n) → kept_count (b - (at i).length) (descriptors_from at (i + 1) n) ≤ n)
           → kept_count b (descriptors_from at i (suc n)) ≤ suc n
@@ -138,6 +134,7 @@ module _ (at : ℕ → Descriptor) where
     where
       above : (m n : ℕ) → nat_lt m n ≡ false → n ≤ m
       above m n h = grind (arith, nat_tests)
+
       by_inside : ((at i).length == 0) ≡ false → Inside b (at i) (descriptors_from at (i + 1) n)
           → (IsInside (b - (at i).length) (descriptors_from at (i + 1) n) → last_length (b - (at i).length) (descriptors_from at (i + 1) n) < top)
           → last_length b (descriptors_from at i (suc n)) < top
@@ -145,6 +142,7 @@ module _ (at : ℕ → Descriptor) where
       by_inside e (Last k l) on =
           let z = ap (last_length b) (from_some i n e) ∙ last_last b (at i) (descriptors_from at (i + 1) n) l in
           omega (arith, z, above (at i).length b l, low i)
+
       choose : (t : Bool) → ((at i).length == 0) ≡ t
           → (IsInside (b - (at i).length) (descriptors_from at (i + 1) n) → last_length (b - (at i).length) (descriptors_from at (i + 1) n) < top)
           → last_length b (descriptors_from at i (suc n)) < top
@@ -166,13 +164,15 @@ trim_from at new (suc n) i b h f = choose ((at i).length == 0) refl (λ x y. tri
   where
     Goal : List Descriptor → Type 0
     Goal l = descriptors_from new i (kept_count b l) ≡ trim b l
+
     Known : List Descriptor → Type 0
     Known l = HasFirst at new i (kept_count b l) (last_length b l)
+
     by_inside : ((at i).length == 0) ≡ false → Inside b (at i) (descriptors_from at (i + 1) n)
         → HasFirst at new i (kept_count b (at i ∷ descriptors_from at (i + 1) n)) (last_length b (at i ∷ descriptors_from at (i + 1) n))
         → (IsInside (b - (at i).length) (descriptors_from at (i + 1) n)
-          → HasFirst at new (i + 1) (kept_count (b - (at i).length) (descriptors_from at (i + 1) n)) (last_length (b - (at i).length) (descriptors_from at (i + 1) n))
-          → descriptors_from new (i + 1) (kept_count (b - (at i).length) (descriptors_from at (i + 1) n)) ≡ trim (b - (at i).length) (descriptors_from at (i + 1) n))
+        → HasFirst at new (i + 1) (kept_count (b - (at i).length) (descriptors_from at (i + 1) n)) (last_length (b - (at i).length) (descriptors_from at (i + 1) n))
+        → descriptors_from new (i + 1) (kept_count (b - (at i).length) (descriptors_from at (i + 1) n)) ≡ trim (b - (at i).length) (descriptors_from at (i + 1) n))
         → descriptors_from new i (kept_count b (at i ∷ descriptors_from at (i + 1) n)) ≡ trim b (at i ∷ descriptors_from at (i + 1) n)
     by_inside e (Over k l x) f on =
         let rest = descriptors_from at (i + 1) n in
@@ -198,10 +198,11 @@ trim_from at new (suc n) i b h f = choose ((at i).length == 0) refl (λ x y. tri
       where
         nonzero : (n : ℕ) → 0 < n → (n == 0) ≡ false
         nonzero n h = grind (arith, nat_tests)
+
     choose : (t : Bool) → ((at i).length == 0) ≡ t
         → (IsInside (b - (at i).length) (descriptors_from at (i + 1) n)
-          → HasFirst at new (i + 1) (kept_count (b - (at i).length) (descriptors_from at (i + 1) n)) (last_length (b - (at i).length) (descriptors_from at (i + 1) n))
-          → descriptors_from new (i + 1) (kept_count (b - (at i).length) (descriptors_from at (i + 1) n)) ≡ trim (b - (at i).length) (descriptors_from at (i + 1) n))
+        → HasFirst at new (i + 1) (kept_count (b - (at i).length) (descriptors_from at (i + 1) n)) (last_length (b - (at i).length) (descriptors_from at (i + 1) n))
+        → descriptors_from new (i + 1) (kept_count (b - (at i).length) (descriptors_from at (i + 1) n)) ≡ trim (b - (at i).length) (descriptors_from at (i + 1) n))
         → descriptors_from new i (kept_count b (descriptors_from at i (suc n))) ≡ trim b (descriptors_from at i (suc n))
     choose true e on = absurd (omega (arith, h.some, h.within, ap bytes_in (from_none at i n e)))
     choose false e on =

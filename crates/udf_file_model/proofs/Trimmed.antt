@@ -1,5 +1,5 @@
 -- The allocation extents of a list that is cut: each holds what the cut leaves of it.
-use Rattle.std.proofs.Common.{ℕ, zero, suc, cond, Option, Some, None, List, ◌≡◌}
+use Rattle.std.proofs.Common.{ℕ, zero, suc, Option, Some, None, List, ◌≡◌}
 use Rattle.std.specs.Prelude.{if◌then◌else◌}
 use Rattle.udf_field.specs.declared.address.Addr.{Addr}
 use Rattle.udf_file_model.specs.Descriptors.{Descriptor}

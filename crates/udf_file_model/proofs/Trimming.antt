@@ -97,6 +97,7 @@ pieces_trim k j (d ∷ ds) b p q r = by_more (d.kind == 3) refl (λ x y z. piece
     by_length e false f on =
         ap (pieces j) (trim_last b d ds e f) ∙ pieces_over j (record d { length = b }) [] e ∙ ap (λ t. Blocks (record d { length = b }) ∷ t) (pieces_nil j)
         ∙ sym (cut_last b d (pieces k ds) p f) ∙ ap (cut_pieces b) (sym (pieces_over k d ds e))
+
     by_more : (m : Bool) → (d.kind == 3) ≡ m
         → (0 < b - d.length → b - d.length ≤ size_of (pieces k ds) → IsCutOn k j (b - d.length) ds → pieces j (trim (b - d.length) ds) ≡ cut_pieces (b - d.length) (pieces k ds))
         → pieces j (trim b (d ∷ ds)) ≡ cut_pieces b (pieces k (d ∷ ds))
@@ -134,6 +135,7 @@ same_self x = both_true (x.part == x.part) (x.block == x.block) (self x.part) (s
   where
     self : (n : ℕ) → (n == n) ≡ true
     self n = grind (arith, nat_tests)
+
     both_true : (a b : Bool) → a ≡ true → b ≡ true → (a && b) ≡ true
     both_true true b e f = f
     both_true false b e f = e
@@ -143,14 +145,17 @@ same_means x y h = split (x.part == y.part) (x.block == y.block) refl refl h
   where
     make : ℕ → ℕ → Addr
     make m n = record { part = m; block = n }
+
     number : (m n : ℕ) (b : Bool) → (m == n) ≡ b → b ≡ true → m ≡ n
     number m n true e f = grind (arith, nat_tests)
     number m n false e f = absurd (cc)
+
     join : x.part ≡ y.part → x.block ≡ y.block → x ≡ y
     join p q =
         let one : ℕ → Addr = λ m. record { part = m; block = x.block } in
         let two : ℕ → Addr = λ n. record { part = y.part; block = n } in
         ap one p ∙ ap two q
+
     split : (a b : Bool) → (x.part == y.part) ≡ a → (x.block == y.block) ≡ b → (a && b) ≡ true → x ≡ y
     split true true e f h = join (number x.part y.part true e refl) (number x.block y.block true f refl)
     split true false e f h = absurd (cc)
@@ -194,9 +199,9 @@ flat_trim at zero ds b p q once =
     pieces_trim (further at zero) (further at zero) ds b p q (λ o e x y. absurd (omega (arith, x, y, ap size_of (further_zero at o.next), size_nil)))
 flat_trim at (suc n) ds b p q once =
     pieces_trim (further at (suc n)) (further g (suc n)) ds b p q (λ o e x y.
-      further_suc g n o.next
-      ∙ next o e (flat_trim at n (at o.next) o.left x (omega (arith, y, ap size_of (further_suc at n o.next))) (once o e).1)
-      ∙ ap (cut_pieces o.left) (sym (further_suc at n o.next)))
+    further_suc g n o.next
+    ∙ next o e (flat_trim at n (at o.next) o.left x (omega (arith, y, ap size_of (further_suc at n o.next))) (once o e).1)
+    ∙ ap (cut_pieces o.left) (sym (further_suc at n o.next)))
   where
     g : Addr → List Descriptor
     g = trim_on at (onward b ds) (λ o. trimmed at n o.left (at o.next))
@@ -204,7 +209,7 @@ flat_trim at (suc n) ds b p q once =
     next : (o : Onward) → onward b ds ≡ Some o
         → pieces (further (trimmed at n o.left (at o.next)) n) (trim o.left (at o.next)) ≡ cut_pieces o.left (pieces (further at n) (at o.next))
         → pieces (further (trim_on at (onward b ds) (λ o. trimmed at n o.left (at o.next))) n) (trim_on at (onward b ds) (λ o. trimmed at n o.left (at o.next)) o.next)
-            ≡ cut_pieces o.left (pieces (further at n) (at o.next))
+        ≡ cut_pieces o.left (pieces (further at n) (at o.next))
     next o e on =
         let body = trim o.left (at o.next) in
         let f = trimmed at n o.left (at o.next) in

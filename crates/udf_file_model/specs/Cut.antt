@@ -3,7 +3,7 @@ use Rattle.std.specs.Prelude.{◌≡◌, ◌⊎◌, ℕ, zero, suc, false, ◌+�
 use Rattle.std.specs.List.{list_any}
 use Rattle.udf_field.specs.declared.address.Addr.{Addr}
 use Rattle.udf_file_model.specs.Descriptors.{Descriptor}
-use Rattle.udf_file_model.specs.Pieces.{Piece, Extent, Blocks, bytes_in, pieces, further, IsAmong}
+use Rattle.udf_file_model.specs.Pieces.{Piece, Extent, Blocks, bytes_in}
 use Rattle.udf_file_model.specs.Front.{Rules, Past, is_part, same_addr}
 
 -- the least number of descriptors whose sum reaches b, the last of them lowered

@@ -1,8 +1,9 @@
 -- The bytes of an entry's or an allocation extent's body, cut to the first descriptors.
-use Rattle.std.specs.Prelude.{◌≡◌, ℕ, suc, ◌+◌, ◌-◌, ◌*◌, ◌/◌, ◌==◌, nat_lt, if◌then◌else◌, Option, Some, None, List, [], ◌∷◌, length, take}
+use Rattle.std.specs.Prelude.{◌≡◌, ℕ, suc, ◌+◌, ◌-◌, ◌*◌, ◌/◌, ◌^◌, ◌<◌, ◌≤◌, ◌==◌, nat_lt, if◌then◌else◌, Option, Some, None, List, [], ◌∷◌, length, take}
 use Rattle.udf_field.specs.declared.address.Addr.{Addr}
-use Rattle.udf_model.specs.Bytes.{number_at, with_number, written_at}
+use Rattle.udf_model.specs.Bytes.{IsBytes, number_at, with_number, written_at}
 use Rattle.udf_model.specs.Tag.{retagged}
+use Rattle.udf_file_model.specs.Entry.{extent_body}
 use Rattle.udf_file_model.specs.Descriptors.{Descriptor, descriptors}
 use Rattle.udf_file_model.specs.Cut.{Onward, onward, trim}
 
@@ -47,3 +48,10 @@ cut_descriptors b ds = if b == 0 then [] else trim b ds
 -- the allocation extent with these bytes of descriptors (4/14.5) and a new tag; what follows them in the block stays
 unfoldable pub extent_with : ℕ → List ℕ → List ℕ → List ℕ
 extent_with location body block = retagged location (8 + length body) (written_at 24 body (with_number 4 20 (length body) block))
+
+-- the block of a whole allocation extent with these bytes of descriptors, at a location
+pub record HasExtent (location : ℕ) (block body : List ℕ) : Type 0 where
+  pub bytes : IsBytes block
+  pub most : length block ≤ 4096
+  pub low : location < 2 ^ 32
+  pub whole : extent_body location block ≡ Some body

@@ -4,7 +4,7 @@ use Rattle.std.specs.List.{range_with_len}
 use Rattle.udf_field.specs.declared.address.Addr.{Addr}
 use Rattle.udf_file_model.specs.Entry.{Entry, entry_of, extent_body, is_directory}
 use Rattle.udf_file_model.specs.Descriptors.{Descriptor, addr, descriptors}
-use Rattle.udf_file_model.specs.Pieces.{Piece, Extent, Blocks, flat, runs_of, extents_of, bytes_in, size_of}
+use Rattle.udf_file_model.specs.Pieces.{Piece, Extent, Blocks, flat, runs_of, extents_of, size_of}
 use Rattle.udf_file_model.specs.Front.{Rules, nothing_yet, good_front, is_good, blocks_for, is_hole}
 
 pub record Volume : Type 0 where

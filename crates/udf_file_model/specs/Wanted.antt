@@ -3,7 +3,7 @@ use Rattle.std.specs.Prelude.{◌≡◌, ℕ, Bool, true, false, ◌+◌, ◌-�
 use Rattle.udf_field.specs.declared.address.Long.{Long}
 use Rattle.udf_model.specs.Bytes.{IsBytes, number_at, with_number, written_at}
 use Rattle.udf_model.specs.Tag.{retagged}
-use Rattle.udf_file_model.specs.Entry.{Entry, attribute_bytes, descriptor_bytes, body_of, information_at, links_at, unique_id_at}
+use Rattle.udf_file_model.specs.Entry.{Entry, entry_header, attribute_bytes, descriptor_bytes, body_of, information_at, links_at, unique_id_at}
 use Rattle.udf_file_model.specs.Descriptors.{addr}
 
 -- a number of so many bytes that is set at an offset
@@ -110,3 +110,11 @@ with_no_stream w = record w { clear = true }
 -- cut to so many bytes, with what is left of the body
 abbrev pub with_cut : ℕ → List ℕ → Wanted → Wanted
 with_cut bytes body w = record w { information = bytes; object_size = bytes; body = body }
+
+-- the block of a readable entry with this header, at a location
+pub record HasEntry (location header : ℕ) (block : List ℕ) : Type 0 where
+  pub bytes : IsBytes block
+  pub least : 512 ≤ length block
+  pub most : length block ≤ 4096
+  pub low : location < 2 ^ 32
+  pub readable : entry_header location block ≡ Some header
