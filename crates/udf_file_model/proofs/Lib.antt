@@ -5,3 +5,4 @@ pub mod Listed
 pub mod Packings
 pub mod Names
 pub mod Anew
+pub mod Fronts

@@ -1,6 +1,7 @@
-//! The definitions of files: file identifier descriptors (FIDs), the scan of a directory's content, packed contents and when
-//! names are the same, in the terms of ECMA-167 part 4 and OSTA UDF 2.1. The code of this crate is laws alone: functions with
-//! an empty body whose contract says what the definitions mean. It stands on the definitions of tags, fields and texts.
+//! The definitions of files: where addresses stand, file identifier descriptors (FIDs), the scan of a directory's content,
+//! packed contents and when names are the same, in the terms of ECMA-167 part 4 and OSTA UDF 2.1. The code of this crate is
+//! laws alone: functions with an empty body whose contract says what the definitions mean. It stands on the definitions of
+//! tags, fields and texts.
 #![tactic(auto)]
 
 ghost use Rattle.std.specs.Prelude.{◌≡◌, ℕ, ◌*◌, ◌≤◌, ◌<◌, ◌%◌, ◌++◌, ◌∷◌, ◌↔◌, ◌⊎◌, List, Some, length, take, drop, true, false, All, AllPairs, Contains, slice_index};
@@ -10,6 +11,7 @@ ghost use Rattle.udf_file_model.specs.Anew.{CanName, named_anew};
 ghost use Rattle.udf_field.specs.declared.address.Addr.{Addr};
 ghost use Rattle.udf_file_model.specs.Scan.{IsScan, Placed, fids, fids_of, offsets};
 ghost use Rattle.udf_file_model.specs.Pack.{IsPacking, IsWholeContent, Packing, fids_at, packed, placed_from};
+ghost use Rattle.udf_file_model.specs.Place.{IsPlacedFront, Place, placed_front};
 ghost use Rattle.udf_file_model.specs.Name.{Canonical, IsSameName, canonical, canonical_cmp};
 
 /// The FID that begins some bytes is found there, and rests on its own bytes alone. Its length is a multiple of four and
@@ -78,4 +80,9 @@ pub fn name_law()
 /// The order of canonical names finds equal only what is equal.
 pub fn order_law()
     ensures { (a b : Canonical) → (canonical_cmp a b ≡ Equal) ↔ (a ≡ b) }
+{}
+
+/// The front of some blocks that is placed is one number: so many are placed, and they are all or the next is not.
+pub fn place_law()
+    ensures { (place : Place) (block blocks n : ℕ) → IsPlacedFront place block blocks n ↔ (placed_front place block blocks ≡ n) }
 {}
