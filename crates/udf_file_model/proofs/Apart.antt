@@ -3,9 +3,10 @@ use Rattle.std.proofs.Common.{◌≡◌, ℕ, zero, suc, Bool, true, false, cond
 use Rattle.std.specs.Prelude.{All, AllPairs}
 use Rattle.std.specs.List.{range_with_len}
 use Rattle.udf_field.specs.declared.address.Addr.{Addr}
-use Rattle.udf_file_model.specs.Descriptors.{Descriptor, addr}
+use Rattle.udf_file_model.specs.Address.{addr, same_addr}
+use Rattle.udf_file_model.specs.Descriptors.{Descriptor}
 use Rattle.udf_file_model.specs.Pieces.{Piece, Extent, Blocks}
-use Rattle.udf_file_model.specs.Front.{Rules, Past, nothing_yet, with_run, with_extent, same_addr, is_hole, blocks_for, covers, stood, is_new, new_in, extent_passes, run_passes, good_front, is_good}
+use Rattle.udf_file_model.specs.Front.{Rules, Past, nothing_yet, with_run, with_extent, is_hole, blocks_for, covers, stood, is_new, new_in, extent_passes, run_passes, good_front, is_good}
 use Rattle.udf_file_model.specs.Listing.{addresses, addresses_from}
 use Rattle.udf_file_model.proofs.Standing.{stood_run, stood_extent, stood_first, covers_not, new_each, new_means}
 use Rattle.udf_file_model.proofs.CutLaws.{both, passes_by}

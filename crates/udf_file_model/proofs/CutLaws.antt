@@ -4,7 +4,8 @@ use Rattle.std.specs.List.{list_any}
 use Rattle.std.proofs.lemmas.Bool.Decides.{nat_tests}
 use Rattle.std.proofs.Math.Nat.{le-div_iff_mul-le, div-mul-le_self}
 use Rattle.udf_field.specs.declared.address.Addr.{Addr}
-use Rattle.udf_file_model.specs.Descriptors.{Descriptor, addr}
+use Rattle.udf_file_model.specs.Address.{addr}
+use Rattle.udf_file_model.specs.Descriptors.{Descriptor}
 use Rattle.udf_file_model.specs.Pieces.{Piece, Extent, Blocks, bytes_in, blocks_each}
 use Rattle.udf_file_model.specs.Front.{Rules, Past, is_hole, is_part, blocks_for, is_new, new_blocks, new_in, may_come, run_passes, run_front, extent_passes, with_run, with_extent, good_front, is_good}
 use Rattle.udf_file_model.specs.Cut.{cut_pieces, to_part, with_information, HasRoom}

@@ -2,7 +2,8 @@
 use Rattle.std.proofs.Common.{◌≡◌, ℕ, zero, suc, Bool, true, false, cond, ◌&&◌, ◌||◌, ◌+◌, ◌-◌, ◌*◌, ◌<◌, ◌≤◌, ◌==◌, nat_lt, inl, inr, List, [], ◌∷◌, arith, sym, ◌∙◌, ap, refl}
 use Rattle.std.proofs.lemmas.Bool.Decides.{nat_tests}
 use Rattle.udf_field.specs.declared.address.Addr.{Addr}
-use Rattle.udf_file_model.specs.Descriptors.{Descriptor, addr}
+use Rattle.udf_file_model.specs.Address.{addr}
+use Rattle.udf_file_model.specs.Descriptors.{Descriptor}
 use Rattle.udf_file_model.specs.Pieces.{Piece, Extent, Blocks, runs_of, blocks_each, pieces, further, IsAmong, size_of}
 use Rattle.udf_file_model.specs.Front.{Rules, Past, nothing_yet, is_new, blocks_for, is_hole, may_come, new_blocks, new_in, front_of, run_passes, run_front, extent_passes, with_run, with_extent, good_front, is_good}
 use Rattle.udf_file_model.specs.Cut.{cut_pieces, trim, with_information, HasRoom}

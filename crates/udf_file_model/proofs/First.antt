@@ -7,7 +7,8 @@ use Rattle.udf_field.specs.FieldView.{short_at, long_at}
 use Rattle.udf_model.specs.Bytes.{IsBytes, number_at, with_number}
 use Rattle.udf_model.proofs.Written.{number_length, number_back, number_stays, number_fits, number_is_bytes, same_number}
 use Rattle.udf_model.proofs.Parts.{take_is_bytes}
-use Rattle.udf_file_model.specs.Descriptors.{Descriptor, addr, of_short, of_long, descriptor_at, descriptor_count, descriptors_from, descriptors}
+use Rattle.udf_file_model.specs.Address.{addr}
+use Rattle.udf_file_model.specs.Descriptors.{Descriptor, of_short, of_long, descriptor_at, descriptor_count, descriptors_from, descriptors}
 use Rattle.udf_file_model.specs.CutBody.{width_of, with_length, with_last, kept_count, last_length, first_of}
 use Rattle.udf_file_model.specs.Cut.{trim}
 use Rattle.udf_file_model.proofs.Trim.{IsInside, count_some, kept_within, last_below, HasFirst, trim_from}

@@ -3,9 +3,10 @@ use Rattle.std.proofs.Common.{◌≡◌, ℕ, zero, suc, Bool, true, false, cond
 use Rattle.std.specs.Prelude.{not}
 use Rattle.std.proofs.lemmas.Bool.Decides.{nat_tests}
 use Rattle.udf_field.specs.declared.address.Addr.{Addr}
+use Rattle.udf_file_model.specs.Address.{same_addr}
 use Rattle.udf_file_model.specs.Descriptors.{Descriptor}
 use Rattle.udf_file_model.specs.Pieces.{Piece, Extent, Blocks, bytes_in, pieces, further, IsAmong, size_of}
-use Rattle.udf_file_model.specs.Front.{Rules, Past, nothing_yet, stood, is_new, extent_passes, run_passes, with_run, with_extent, good_front, is_good, same_addr}
+use Rattle.udf_file_model.specs.Front.{Rules, Past, nothing_yet, stood, is_new, extent_passes, run_passes, with_run, with_extent, good_front, is_good}
 use Rattle.udf_file_model.specs.Cut.{cut_pieces, trim, Onward, onward, HasRoom, with_information, left_on, left_in}
 use Rattle.udf_file_model.proofs.Trimmed.{trimmed, trim_on, trim_at}
 use Rattle.udf_file_model.proofs.Trimming.{size_blocks, size_extent, size_nil, pieces_nil, pieces_more, pieces_over, further_suc, flat_trim, same_means}

@@ -24,3 +24,4 @@ pub mod Cutting
 pub mod Local
 pub mod CutList
 pub mod Apart
+pub mod Fronts

@@ -2,9 +2,10 @@
 use Rattle.std.proofs.Common.{◌≡◌, ℕ, zero, suc, Bool, true, false, cond, ◌&&◌, ◌||◌, ◌+◌, ◌-◌, ◌*◌, ◌<◌, ◌≤◌, ◌==◌, ◌⊎◌, nat_lt, inl, inr, Some, None, List, [], ◌∷◌, arith, sym, ◌∙◌, ap, refl, subst}
 use Rattle.std.proofs.lemmas.Bool.Decides.{nat_tests}
 use Rattle.udf_field.specs.declared.address.Addr.{Addr}
+use Rattle.udf_file_model.specs.Address.{same_addr}
 use Rattle.udf_file_model.specs.Descriptors.{Descriptor}
 use Rattle.udf_file_model.specs.Pieces.{Piece, Extent, Blocks, runs_of, blocks_each, pieces, further, IsAmong, size_of}
-use Rattle.udf_file_model.specs.Front.{Rules, Past, nothing_yet, may_come, is_hole, new_in, blocks_for, front_of, same_addr, stood, is_new, covers, run_passes, run_front, extent_passes, with_run, with_extent, good_front}
+use Rattle.udf_file_model.specs.Front.{Rules, Past, nothing_yet, may_come, is_hole, new_in, blocks_for, front_of, stood, is_new, covers, run_passes, run_front, extent_passes, with_run, with_extent, good_front}
 use Rattle.udf_file_model.specs.Cut.{cut_pieces, trim, with_information, HasRoom, Onward, onward}
 use Rattle.udf_file_model.proofs.Trimmed.{trimmed, ComeOnce}
 use Rattle.udf_file_model.proofs.Standing.{stood_run, stood_extent, new_means, new_few}

@@ -3,8 +3,9 @@ use Rattle.std.proofs.Common.{◌≡◌, ℕ, zero, suc, Bool, true, false, cond
 use Rattle.std.specs.List.{list_any}
 use Rattle.std.proofs.lemmas.Bool.Decides.{nat_tests}
 use Rattle.udf_field.specs.declared.address.Addr.{Addr}
-use Rattle.udf_file_model.specs.Descriptors.{Descriptor, addr}
-use Rattle.udf_file_model.specs.Front.{Rules, Past, same_addr, is_hole, blocks_for, covers, stood, is_new, new_blocks, with_run, with_extent, nothing_yet}
+use Rattle.udf_file_model.specs.Address.{addr, same_addr}
+use Rattle.udf_file_model.specs.Descriptors.{Descriptor}
+use Rattle.udf_file_model.specs.Front.{Rules, Past, is_hole, blocks_for, covers, stood, is_new, new_blocks, with_run, with_extent, nothing_yet}
 
 any_push : {X : Type 0} (test : X → Bool) (xs : List X) (x : X) → list_any test (xs ++ x ∷ []) ≡ (list_any test xs || test x)
 any_push test [] x = or_false (test x)

@@ -2,9 +2,9 @@
 use Rattle.std.proofs.Common.{ℕ, zero, suc, Option, Some, None, List, ◌≡◌}
 use Rattle.std.specs.Prelude.{if◌then◌else◌}
 use Rattle.udf_field.specs.declared.address.Addr.{Addr}
+use Rattle.udf_file_model.specs.Address.{same_addr}
 use Rattle.udf_file_model.specs.Descriptors.{Descriptor}
 use Rattle.udf_file_model.specs.Pieces.{pieces, further, IsAmong}
-use Rattle.udf_file_model.specs.Front.{same_addr}
 use Rattle.udf_file_model.specs.Cut.{cut_pieces, trim, Onward, onward}
 
 unfoldable pub trim_at : Addr → List Descriptor → (Addr → List Descriptor) → Addr → List Descriptor

@@ -2,9 +2,9 @@
 use Rattle.std.proofs.Common.{◌≡◌, ℕ, zero, suc, Bool, true, false, cond, ◌+◌, ◌-◌, ◌<◌, ◌≤◌, ◌==◌, ◌&&◌, nat_lt, inl, inr, Option, Some, List, [], ◌∷◌, arith, sym, ◌∙◌, ap, refl, subst}
 use Rattle.std.proofs.lemmas.Bool.Decides.{nat_tests}
 use Rattle.udf_field.specs.declared.address.Addr.{Addr}
+use Rattle.udf_file_model.specs.Address.{same_addr}
 use Rattle.udf_file_model.specs.Descriptors.{Descriptor}
 use Rattle.udf_file_model.specs.Pieces.{Piece, Extent, Blocks, bytes_in, runs_of, pieces, further, IsAmong}
-use Rattle.udf_file_model.specs.Front.{same_addr}
 use Rattle.udf_file_model.specs.Cut.{cut_pieces, trim, Onward, onward}
 use Rattle.udf_file_model.proofs.Trimmed.{trim_at, trim_on, trimmed, ComeOnce}
 

@@ -2,9 +2,10 @@
 use Rattle.std.specs.Prelude.{◌≡◌, ◌⊎◌, ℕ, zero, suc, false, ◌+◌, ◌-◌, ◌≤◌, ◌==◌, nat_lt, if◌then◌else◌, Option, Some, None, List, [], ◌∷◌}
 use Rattle.std.specs.List.{list_any}
 use Rattle.udf_field.specs.declared.address.Addr.{Addr}
+use Rattle.udf_file_model.specs.Address.{same_addr}
 use Rattle.udf_file_model.specs.Descriptors.{Descriptor}
 use Rattle.udf_file_model.specs.Pieces.{Piece, Extent, Blocks, bytes_in}
-use Rattle.udf_file_model.specs.Front.{Rules, Past, is_part, same_addr}
+use Rattle.udf_file_model.specs.Front.{Rules, Past, is_part}
 
 -- the least number of descriptors whose sum reaches b, the last of them lowered
 unfoldable pub cut_pieces : ℕ → List Piece → List Piece

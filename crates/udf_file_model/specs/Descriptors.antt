@@ -4,9 +4,7 @@ use Rattle.udf_field.specs.declared.address.Addr.{Addr}
 use Rattle.udf_field.specs.declared.address.Short.{Short}
 use Rattle.udf_field.specs.declared.address.Long.{Long}
 use Rattle.udf_field.specs.FieldView.{short_at, long_at}
-
-abbrev pub addr : ℕ → ℕ → Addr
-addr part block = record { part = part; block = block }
+use Rattle.udf_file_model.specs.Address.{addr}
 
 -- a descriptor: its kind (0 recorded, 1 allocated, 2 hole, 3 continuation), its bytes, its address, the address of the
 -- entry or allocation extent that holds it, and its number there

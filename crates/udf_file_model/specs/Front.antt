@@ -2,7 +2,8 @@
 use Rattle.std.specs.Prelude.{ℕ, zero, suc, Bool, true, not, ◌+◌, ◌-◌, ◌*◌, ◌/◌, ◌%◌, ◌^◌, ◌==◌, ◌&&◌, ◌||◌, nat_lt, nat_le, if◌then◌else◌, List, [], ◌∷◌, ◌++◌}
 use Rattle.std.specs.List.{list_any}
 use Rattle.udf_field.specs.declared.address.Addr.{Addr}
-use Rattle.udf_file_model.specs.Descriptors.{Descriptor, addr}
+use Rattle.udf_file_model.specs.Address.{addr, same_addr}
+use Rattle.udf_file_model.specs.Descriptors.{Descriptor}
 use Rattle.udf_file_model.specs.Pieces.{Piece, Extent, Blocks, bytes_in, blocks_each}
 
 -- what a list is read by
@@ -30,9 +31,6 @@ with_run past d = record { runs = past.runs ++ (d ∷ []); extents = past.extent
 
 abbrev pub with_extent : Past → Addr → Past
 with_extent past x = record { runs = past.runs; extents = past.extents ++ (x ∷ []) }
-
-abbrev pub same_addr : Addr → Addr → Bool
-same_addr a b = (a.part == b.part) && (a.block == b.block)
 
 -- 4/14.14.1.1: a descriptor of kind 2 has no blocks
 abbrev pub is_hole : Descriptor → Bool

@@ -1,4 +1,4 @@
--- The definitions of files.
+-- The definitions of files and of the places of their blocks.
 pub mod Entry
 pub mod Descriptors
 pub mod Pieces
@@ -14,3 +14,5 @@ pub mod Scan
 pub mod Pack
 pub mod Anew
 pub mod Name
+pub mod Place
+pub mod Address

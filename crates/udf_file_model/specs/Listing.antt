@@ -2,8 +2,9 @@
 use Rattle.std.specs.Prelude.{ℕ, Bool, true, ◌*◌, ◌==◌, if◌then◌else◌, Option, Some, None, is_some, List, [], ◌∷◌, ◌++◌, map, length}
 use Rattle.std.specs.List.{range_with_len}
 use Rattle.udf_field.specs.declared.address.Addr.{Addr}
+use Rattle.udf_file_model.specs.Address.{Places, addr}
 use Rattle.udf_file_model.specs.Entry.{Entry, entry_of, extent_body, is_directory}
-use Rattle.udf_file_model.specs.Descriptors.{Descriptor, addr, descriptors}
+use Rattle.udf_file_model.specs.Descriptors.{Descriptor, descriptors}
 use Rattle.udf_file_model.specs.Pieces.{Piece, Extent, Blocks, flat, runs_of, extents_of, size_of}
 use Rattle.udf_file_model.specs.Front.{Rules, nothing_yet, good_front, is_good, blocks_for, is_hole}
 
@@ -13,7 +14,7 @@ pub record Volume : Type 0 where
   -- the number of blocks of the image
   pub blocks : ℕ
   pub disk : ℕ → List ℕ
-  pub place : Addr → Option ℕ
+  pub place : Places
 
 -- another disk, with the same places
 abbrev pub with_disk : Volume → (ℕ → List ℕ) → Volume

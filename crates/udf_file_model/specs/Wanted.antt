@@ -3,8 +3,8 @@ use Rattle.std.specs.Prelude.{◌≡◌, ℕ, Bool, true, false, ◌+◌, ◌-�
 use Rattle.udf_field.specs.declared.address.Long.{Long}
 use Rattle.udf_model.specs.Bytes.{IsBytes, number_at, with_number, written_at}
 use Rattle.udf_model.specs.Tag.{retagged}
+use Rattle.udf_file_model.specs.Address.{addr}
 use Rattle.udf_file_model.specs.Entry.{Entry, entry_header, attribute_bytes, descriptor_bytes, body_of, information_at, links_at, unique_id_at}
-use Rattle.udf_file_model.specs.Descriptors.{addr}
 
 -- a number of so many bytes that is set at an offset
 pub record Field : Type 0 where

@@ -1,7 +1,7 @@
-//! The definitions of files: entries, their lists of blocks, contents and what a cut leaves of them, over a disk and the
-//! places of addresses; file identifier descriptors (FIDs), the scan of a directory's content, packed contents and when names
-//! are the same, in the terms of ECMA-167 part 4 and OSTA UDF 2.1. The code of this crate is laws alone: functions with an
-//! empty body whose contract says what the definitions mean. It stands on the definitions of tags, fields and texts.
+//! The definitions of files: where addresses stand; entries, their lists of blocks, contents and what a cut leaves of them, over
+//! a disk and those places; file identifier descriptors (FIDs), the scan of a directory's content, packed contents and when
+//! names are the same, in the terms of ECMA-167 part 4 and OSTA UDF 2.1. The code of this crate is laws alone: functions with
+//! an empty body whose contract says what the definitions mean. It stands on the definitions of tags, fields and texts.
 #![tactic(auto)]
 
 ghost use Rattle.std.specs.Prelude.{◌≡◌, ◌≢◌, ℕ, ◌*◌, ◌^◌, ◌≤◌, ◌<◌, ◌%◌, ◌++◌, ◌∷◌, ◌↔◌, ◌⊎◌, List, [], Some, length, take, drop, true, false, All, AllPairs, Contains, slice_index};
@@ -20,6 +20,7 @@ ghost use Rattle.udf_file_model.specs.Cut.{HasRoom, cut_pieces};
 ghost use Rattle.udf_file_model.specs.CutBody.{HasExtent, extent_with};
 ghost use Rattle.udf_file_model.specs.CutEntry.{AreBytes, IsCut, cut_entry};
 ghost use Rattle.udf_file_model.specs.Wanted.{Fits, HasEntry, Wanted, entry_with, mended, own, stream_left, with_cut, with_id, with_links, with_no_stream};
+ghost use Rattle.udf_file_model.specs.Place.{IsPlacedFront, Place, placed_front};
 ghost use Rattle.udf_file_model.specs.Name.{Canonical, IsSameName, canonical, canonical_cmp};
 
 /// The entry's own block and the addresses of its list are pairwise different, and those of the list are placed. A good list
@@ -136,4 +137,9 @@ pub fn name_law()
 /// The order of canonical names finds equal only what is equal.
 pub fn order_law()
     ensures { (a b : Canonical) → (canonical_cmp a b ≡ Equal) ↔ (a ≡ b) }
+{}
+
+/// The front of some blocks that is placed is one number: so many are placed, and they are all or the next is not.
+pub fn place_law()
+    ensures { (place : Place) (block blocks n : ℕ) → IsPlacedFront place block blocks n ↔ (placed_front place block blocks ≡ n) }
 {}
