@@ -1,0 +1,3 @@
+-- What the calls and types of this crate show, where one definition of files does not say it.
+pub mod Bits
+pub mod Opened

@@ -1,0 +1,14 @@
+//! File entries (ECMA-167 4/14.9, 4/14.17): what the block of an entry says, and which blocks belong to it. Its one contract:
+//! whatever a block and the partitions hold, each call answers what the definitions of files give of them, a fault that the
+//! bench counted, or want of memory. It stands on the definitions of files, on partition layers, on the bench, on the fields
+//! of structures and on `bitflags`.
+#![tactic(auto)]
+
+mod entry;
+mod header;
+mod icb_flags;
+mod stop;
+
+pub use entry::{Entry, read_entry};
+pub use icb_flags::IcbFlags;
+pub use stop::ListStop;
