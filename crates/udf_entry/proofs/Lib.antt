@@ -1,0 +1,9 @@
+pub mod Steps
+pub mod Passing
+pub mod Walking
+pub mod Few
+pub mod Spans
+pub mod Telling
+pub mod Bodies
+pub mod Extents
+pub mod Lists

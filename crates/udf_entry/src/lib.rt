@@ -4,11 +4,21 @@
 //! of structures and on `bitflags`.
 #![tactic(auto)]
 
+mod body;
+mod chain;
 mod entry;
+mod extent;
 mod header;
 mod icb_flags;
+mod list;
+mod reading;
+mod rules;
+mod run;
+mod seen;
 mod stop;
 
 pub use entry::{Entry, read_entry};
 pub use icb_flags::IcbFlags;
+pub use list::{List, list_of};
+pub use run::Run;
 pub use stop::ListStop;

@@ -2,6 +2,7 @@
 use Rattle.std.specs.Prelude.{ℕ, Bool, true, ◌*◌, ◌==◌, if◌then◌else◌, Option, Some, None, is_some, List, [], ◌∷◌, ◌++◌, map, length}
 use Rattle.std.specs.List.{range_with_len}
 use Rattle.udf_field.specs.declared.address.Addr.{Addr}
+use Rattle.udf_model.specs.Image.{block_of, blocks_in}
 use Rattle.udf_file_model.specs.Address.{Places, addr}
 use Rattle.udf_file_model.specs.Entry.{Entry, entry_of, extent_body, is_directory}
 use Rattle.udf_file_model.specs.Descriptors.{Descriptor, descriptors}
@@ -15,6 +16,10 @@ pub record Volume : Type 0 where
   pub blocks : ℕ
   pub disk : ℕ → List ℕ
   pub place : Places
+
+-- an image cut into blocks, with the places of addresses
+abbrev pub volume_of : ℕ → List ℕ → Places → Volume
+volume_of size image place = record { size = size; blocks = blocks_in size image; disk = block_of size image; place = place }
 
 -- another disk, with the same places
 abbrev pub with_disk : Volume → (ℕ → List ℕ) → Volume
