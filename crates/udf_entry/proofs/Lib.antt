@@ -7,3 +7,4 @@ pub mod Telling
 pub mod Bodies
 pub mod Extents
 pub mod Lists
+pub mod Told
