@@ -8,3 +8,5 @@ pub mod Bodies
 pub mod Extents
 pub mod Lists
 pub mod Told
+pub mod Appending
+pub mod RunBytes

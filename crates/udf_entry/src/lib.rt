@@ -6,6 +6,7 @@
 
 mod body;
 mod chain;
+mod content;
 mod entry;
 mod extent;
 mod header;
@@ -17,6 +18,7 @@ mod run;
 mod seen;
 mod stop;
 
+pub use content::content_of;
 pub use entry::{Entry, read_entry};
 pub use icb_flags::IcbFlags;
 pub use list::{List, list_of};

@@ -8,7 +8,7 @@ ghost use Rattle.udf_outside.specs.Reads.{OnlyReads};
 ghost use Rattle.udf_outside.specs.declared.bench.Role.TheVariants.{Image};
 ghost use Rattle.udf_file_model.specs.Pieces.{bytes_in};
 ghost use Rattle.udf_file_model.specs.Listing.{listing_at, listing_by, volume_of};
-ghost use Rattle.udf_entry.specs.RunView.{run_seen};
+ghost use Rattle.udf_entry.specs.RunView.{run_seen, runs_seen};
 ghost use Rattle.udf_entry.specs.ReadingView.{past_of};
 
 use crate::chain::read_list;
@@ -74,6 +74,13 @@ impl List {
         ensures { slice_get self.now.runs i ≡ Some (run_seen result) }
     {
         self.runs[i as usize]
+    }
+
+    /// Its runs.
+    pub(crate) fn runs(&self) -> &[Run]
+        ensures { runs_seen result.now ≡ self.now.runs }
+    {
+        &self.runs
     }
 
     /// How many allocation extents it has, those that give no run included.
