@@ -10,3 +10,5 @@ pub mod Lists
 pub mod Told
 pub mod Appending
 pub mod RunBytes
+pub mod Bodied
+pub mod InBlock

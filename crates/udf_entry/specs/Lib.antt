@@ -7,3 +7,4 @@ pub mod RunView
 pub mod ReadingView
 pub mod NextView
 pub mod ListView
+pub mod ValuesView

@@ -1,6 +1,8 @@
 // Headers of entries, and the parts of entries and of allocation extents that they measure.
 ghost use Rattle.std.specs.Prelude.{◌≡◌, ◌+◌, ◌<◌, ◌≤◌, true, length, IfSome, option_map};
-ghost use Rattle.udf_file_model.specs.Entry.{body_of, entry_header, extent_body, fits, header_of_id, kind_at};
+ghost use Rattle.udf_model.specs.Bytes.{IsBytes};
+ghost use Rattle.udf_file_model.specs.Entry.{descriptor_bytes, entry_header, extent_body, fits, header_of_id, kind_at};
+ghost use Rattle.udf_file_model.specs.Wanted.{base_of};
 ghost use Rattle.udf_entry.specs.Opened.{IsOpened};
 
 use udf_field::{Fields, id_at};
@@ -73,6 +75,7 @@ fn fits_block(block: &[u8], header: usize) -> bool
 pub(crate) fn header_at(block: &[u8], location: u32) -> Option<usize>
     ensures value { result ≡ entry_header location block.now }
     ensures opened { IfSome result (λ header. IsOpened header block.now) }
+    ensures bytes { IsBytes block.now }
 {
     let header = header_of(id_at(block, location)?)?;
     if fits_block(block, header) {
@@ -99,4 +102,14 @@ pub(crate) fn extent_in(block: &[u8], location: u32) -> Option<&[u8]>
         return None;
     }
     Some(&block[EXTENT_BYTES..EXTENT_BYTES + many])
+}
+
+/// Where the body of the entry with this header begins.
+pub(crate) fn base_in(block: &[u8], header: usize) -> usize
+    requires { IsOpened header block.now }
+    ensures base { result ≡ base_of header block.now }
+    ensures room { result + descriptor_bytes header block.now ≤ length block.now }
+    ensures least { 176 ≤ result }
+{
+    header + Fields::over(block).u32_at(header - 8) as usize
 }

@@ -25,3 +25,5 @@ pub mod Local
 pub mod CutList
 pub mod Apart
 pub mod Fronts
+pub mod Written
+pub mod InPlace

@@ -53,6 +53,25 @@ body_with header w block = written_at (base_of header block) w.body (with_fields
 unfoldable pub entry_with : ℕ → ℕ → Wanted → List ℕ → List ℕ
 entry_with location header w block = retagged location (base_of header block + length w.body - 16) (body_with header w block)
 
+-- the values that an entry has
+abbrev pub own : ℕ → List ℕ → Wanted
+own header block = record {
+  information = information_at block;
+  object_size = number_at 8 block 64;
+  links = links_at block;
+  id = unique_id_at header block;
+  clear = false;
+  body = body_of header block;
+}
+
+abbrev pub entry_wanting_by : ℕ → (Wanted → Wanted) → List ℕ → Option ℕ → List ℕ
+entry_wanting_by location change block None = block
+entry_wanting_by location change block (Some header) = entry_with location header (change (own header block)) block
+
+-- the block of the readable entry at a location with other values than its own; a block that holds none stays
+unfoldable pub entry_wanting : ℕ → (Wanted → Wanted) → List ℕ → List ℕ
+entry_wanting location change block = entry_wanting_by location change block (entry_header location block)
+
 -- an ICB that names nothing
 abbrev pub nowhere : Long
 nowhere = record { kind = 0; length = 0; at = addr 0 0 }
@@ -78,6 +97,16 @@ mended w e = record {
   body = w.body;
 }
 
+-- an entry with another link count, with another identifier, and without a stream directory
+abbrev pub entry_linked : ℕ → Entry → Entry
+entry_linked n e = record e { links = n }
+
+abbrev pub entry_identified : ℕ → Entry → Entry
+entry_identified n e = record e { id = n }
+
+abbrev pub entry_streamless : Entry → Entry
+entry_streamless e = record e { stream = stream_left true e.stream }
+
 -- the wanted values fit the entry with this header
 pub record Fits (header : ℕ) (w : Wanted) (block : List ℕ) : Type 0 where
   pub information : w.information < 256 ^ 8
@@ -86,17 +115,6 @@ pub record Fits (header : ℕ) (w : Wanted) (block : List ℕ) : Type 0 where
   pub id : w.id < 256 ^ 8
   pub bytes : IsBytes w.body
   pub body : length w.body ≤ descriptor_bytes header block
-
--- the values that an entry has
-abbrev pub own : ℕ → List ℕ → Wanted
-own header block = record {
-  information = information_at block;
-  object_size = number_at 8 block 64;
-  links = links_at block;
-  id = unique_id_at header block;
-  clear = false;
-  body = body_of header block;
-}
 
 abbrev pub with_links : ℕ → Wanted → Wanted
 with_links n w = record w { links = n }

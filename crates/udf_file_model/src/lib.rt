@@ -19,7 +19,7 @@ ghost use Rattle.udf_file_model.specs.Listing.{Volume, addresses, extent_at, is_
 ghost use Rattle.udf_file_model.specs.Cut.{HasRoom, cut_pieces};
 ghost use Rattle.udf_file_model.specs.CutBody.{HasExtent, extent_with};
 ghost use Rattle.udf_file_model.specs.CutEntry.{AreBytes, IsCut, cut_entry};
-ghost use Rattle.udf_file_model.specs.Wanted.{Fits, HasEntry, Wanted, entry_with, mended, own, stream_left, with_cut, with_id, with_links, with_no_stream};
+ghost use Rattle.udf_file_model.specs.Wanted.{Fits, HasEntry, Wanted, entry_identified, entry_linked, entry_streamless, entry_with, mended, own, with_cut, with_id, with_links, with_no_stream};
 ghost use Rattle.udf_file_model.specs.Place.{IsPlacedFront, Place, placed_front};
 ghost use Rattle.udf_file_model.specs.Name.{Canonical, IsSameName, canonical, canonical_cmp};
 
@@ -49,12 +49,12 @@ pub fn wanted_law()
     ensures wanted { (at header : ℕ) (block : List ℕ) (w : Wanted) → HasEntry at header block → Fits header w block
         → entry_of at (entry_with at header w block) ≡ Some (mended w (entry_in header block)) }
     ensures links { (at header n : ℕ) (block : List ℕ) → HasEntry at header block → n < 2 ^ 16
-        → entry_of at (entry_with at header (with_links n (own header block)) block) ≡ Some (record (entry_in header block) { links = n }) }
+        → entry_of at (entry_with at header (with_links n (own header block)) block) ≡ Some (entry_linked n (entry_in header block)) }
     ensures id { (at header n : ℕ) (block : List ℕ) → HasEntry at header block → n < 2 ^ 64
-        → entry_of at (entry_with at header (with_id n (own header block)) block) ≡ Some (record (entry_in header block) { id = n }) }
+        → entry_of at (entry_with at header (with_id n (own header block)) block) ≡ Some (entry_identified n (entry_in header block)) }
     ensures stream { (at header : ℕ) (block : List ℕ) → HasEntry at header block
         → entry_of at (entry_with at header (with_no_stream (own header block)) block)
-        ≡ Some (record (entry_in header block) { stream = stream_left true (entry_in header block).stream }) }
+        ≡ Some (entry_streamless (entry_in header block)) }
     ensures cut { (at header n : ℕ) (block body : List ℕ) → HasEntry at header block → n < 2 ^ 64 → IsBytes body
         → length body ≤ length (entry_in header block).body
         → entry_of at (entry_with at header (with_cut n body (own header block)) block)
