@@ -90,6 +90,7 @@ pub(crate) fn header_at(block: &[u8], location: u32) -> Option<usize>
 pub(crate) fn extent_in(block: &[u8], location: u32) -> Option<&[u8]>
     ensures body { option_map (λ body. body.now) result ≡ extent_body location block.now }
     ensures short { IfSome result (λ body. length body.now ≤ length block.now) }
+    ensures bytes { IsBytes block.now }
 {
     let Some(ALLOCATION_EXTENT) = id_at(block, location) else {
         return None;
