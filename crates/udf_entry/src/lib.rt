@@ -29,3 +29,6 @@ pub use list::{List, list_of};
 pub use run::Run;
 pub use settings::{clear_stream, set_id, set_links};
 pub use stop::ListStop;
+
+#[cfg(test)]
+mod tests;
