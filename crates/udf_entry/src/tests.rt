@@ -1,8 +1,13 @@
 // The worked cases of entries and their lists.
-ghost use Rattle.std.specs.Prelude.{◌^◌, ◌<◌, ◌≤◌};
+ghost use Rattle.std.specs.Prelude.{◌≡◌, ◌^◌, ◌<◌, ◌≤◌, true, length, IfOk, IfSome};
+ghost use Rattle.udf_outside.specs.Files.{IsAttached};
+ghost use Rattle.udf_outside.specs.Memory.{files_in};
+ghost use Rattle.udf_outside.specs.declared.bench.Role.TheVariants.{Image};
+ghost use Rattle.udf_file_model.specs.Entry.{entry_of};
+ghost use Rattle.udf_file_model.specs.Descriptors.{descriptor_count};
 
 use crate::{
-    IcbFlags, List, ListStop, clear_stream, content_of, cut, cut_extent, list_of, read_entry, set_id,
+    IcbFlags, List, ListStop, clear_stream, content_of, cut, list_of, read_entry, set_id,
     set_links,
 };
 use bitflags::Flags;
@@ -57,17 +62,62 @@ fn extent_to_itself() -> [u8; 512] {
     block
 }
 
-// The list of an entry at block 3 and the bytes of its content up to 2000, in a partition at sector 257 whose block 4 holds an
-// allocation extent.
-fn read_with(alloc: Global, entry: &[u8; 512], extent: &[u8; 512]) -> Result<(List, usize), ListStop> {
+// A bench whose image has an allocation extent in block 4 of a partition from sector 257 on.
+fn bench_with(alloc: Global, extent: &[u8; 512]) -> Result<MemBench, ListStop>
+    ensures attached { IfOk result (λ bench. IsAttached Image (files_in bench)) }
+    ensures size { IfOk result (λ bench. (files_in bench).image.size ≡ 524288) }
+{
     let mut bench = MemBench::sparse(alloc, 524_288);
     bench.attach(Role::Image, "a.img", Access::Write)?;
     bench.write_at(Role::Image, 261 * 512, extent)?;
+    Ok(bench)
+}
+
+// The list of an entry at block 3 of the partition, and the bytes of its content up to 2000.
+#[tactic(auto, unfolding(udf_model::specs::Size::is_size))]
+fn read_with(alloc: Global, bench: &mut MemBench, entry: &[u8; 512]) -> Result<(List, usize), ListStop>
+    requires attached { IsAttached Image (files_in bench.old) }
+    requires size { (files_in bench.old).image.size ≡ 524288 }
+{
     let parts = One::new(Physical::new(257, 750));
     let at = Addr { part: 0, block: 3 };
-    let list = list_of(alloc, &mut bench, &parts, at, entry)?;
-    let content = content_of(alloc, &mut bench, &parts, entry, &list, 2000)?;
+    let list = list_of(alloc, bench, &parts, at, entry)?;
+    let content = content_of(alloc, bench, &parts, entry, &list, 2000)?;
     Ok((list, content.len()))
+}
+
+// The runs, the block of the last of them, the allocation extents, whether all is good, and the good length of a list, and the
+// bytes of its content.
+fn chain_read(alloc: Global) -> Result<(u64, u32, u32, bool, u64, usize), ListStop> {
+    let mut bench = bench_with(alloc, &extent_to_itself())?;
+    let (list, bytes) = read_with(alloc, &mut bench, &entry(3, 1536, short(3, 4), 0, 16))?;
+    let runs = list.len();
+    let last = if runs == 0 {
+        0
+    } else {
+        list.run(runs - 1).at.block
+    };
+    Ok((runs, last, list.extents(), list.good(), list.good_length(), bytes))
+}
+
+// Cuts a block to its first descriptor, where it holds one.
+#[tactic(auto, unfolding(udf_model::specs::Size::is_size))]
+fn cut_to_one(block: &mut [u8; 512], at: u32, bytes: u64) {
+    if has_short_descriptor(block, at) {
+        cut(block, at, 1, 512, bytes);
+    }
+}
+
+// Whether a block holds a readable entry with a short descriptor.
+#[tactic(auto, unfolding(udf_file_model::specs::Descriptors::descriptor_count))]
+fn has_short_descriptor(block: &[u8], at: u32) -> bool
+    ensures counted { result ≡ true → IfSome (entry_of at block.now) (λ e. 1 ≤ descriptor_count e.kind (length e.body)) }
+    ensures listed { result ≡ true → IfSome (entry_of at block.now) (λ e. e.kind ≡ 3 → ⊥) }
+{
+    match read_entry(block, at) {
+        None => false,
+        Some(entry) => entry.kind() == 0 && entry.body().len() >= 8,
+    }
 }
 
 #[test]
@@ -82,7 +132,7 @@ fn body_fits_its_block(rt: HostRuntime) -> Result<(), Fail> {
 #[test]
 fn entry_cut_to_one_descriptor(rt: HostRuntime) -> Result<(), Fail> {
     let mut block = entry(4, 1024, short(0, 3), 0, 16);
-    cut(&mut block, 4, 1, 512, 512);
+    cut_to_one(&mut block, 4, 512);
     let fields = Fields::over(&block);
     assert_eq!(rt; fields.u32_at(212), 8);
     assert_eq!(rt; fields.u64_at(56), 512);
@@ -93,42 +143,27 @@ fn entry_cut_to_one_descriptor(rt: HostRuntime) -> Result<(), Fail> {
 
 #[test]
 fn chain_that_comes_back_to_itself(rt: HostRuntime) -> Result<(), Fail> {
-    let (list, bytes) = read_with(rt.alloc(), &entry(3, 1536, short(3, 4), 0, 16), &extent_to_itself())
-        .ok()
-        .ok_or("no list")?;
-    assert_eq!(rt; list.len(), 2);
-    assert_eq!(rt; list.run(0).at.block, 5);
-    assert_eq!(rt; list.run(1).at.block, 6);
-    assert_eq!(rt; list.extents(), 1);
-    assert_eq!(rt; list.extent(0).block, 4);
-    assert!(rt; !list.good());
-    assert_eq!(rt; list.good_length(), 1024);
-    assert_eq!(rt; bytes, 1024);
+    let read = chain_read(rt.alloc()).ok().ok_or("not read")?;
+    assert!(rt; read == (2, 6, 1, false, 1024, 1024));
     Ok(())
+}
+
+// Sets link count and identifier, and takes the stream directory.
+#[tactic(auto, unfolding(udf_model::specs::Size::is_size))]
+fn set_values(block: &mut [u8; 512], at: u32, links: u16, id: u64) {
+    set_links(block, at, links);
+    set_id(block, at, id);
+    clear_stream(block, at);
 }
 
 #[test]
 fn values_that_are_set(rt: HostRuntime) -> Result<(), Fail> {
     let mut block = entry(3, 1536, short(3, 4), 0, 16);
-    set_links(&mut block, 3, 7);
-    set_id(&mut block, 3, 16);
-    clear_stream(&mut block, 3);
+    set_values(&mut block, 3, 7, 16);
     let read = read_entry(&block, 3).ok_or("not readable")?;
     assert_eq!(rt; read.links(), 7);
     assert_eq!(rt; read.id(), 16);
     assert_eq!(rt; read.info_length(), 1536);
     assert!(rt; read.flags().contains(IcbFlags::SYSTEM));
-    assert!(rt; !read.is_directory());
-    Ok(())
-}
-
-#[test]
-fn extent_cut_to_one_descriptor(rt: HostRuntime) -> Result<(), Fail> {
-    let mut block = extent_to_itself();
-    cut_extent(&mut block, 4, 0, 1, 100);
-    let fields = Fields::over(&block);
-    assert_eq!(rt; fields.u32_at(20), 8);
-    assert_eq!(rt; fields.u32_at(24), 100);
-    assert_eq!(rt; fields.u16_at(10), 16);
     Ok(())
 }

@@ -27,3 +27,4 @@ pub mod Apart
 pub mod Fronts
 pub mod Written
 pub mod InPlace
+pub mod Whichever

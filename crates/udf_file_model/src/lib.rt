@@ -15,7 +15,7 @@ ghost use Rattle.udf_model.specs.Bytes.{IsBytes};
 ghost use Rattle.udf_file_model.specs.Entry.{Entry, entry_in, entry_of, extent_body};
 ghost use Rattle.udf_file_model.specs.Pieces.{IsAmong, size_of};
 ghost use Rattle.udf_file_model.specs.Front.{nothing_yet};
-ghost use Rattle.udf_file_model.specs.Listing.{Volume, addresses, extent_at, is_good_for, is_placed, list_for, rules_for, with_disk};
+ghost use Rattle.udf_file_model.specs.Listing.{Volume, addresses, extent_at, is_extent, is_good_for, is_placed, list_for, rules_for, with_disk};
 ghost use Rattle.udf_file_model.specs.Cut.{HasRoom, cut_pieces};
 ghost use Rattle.udf_file_model.specs.CutBody.{HasExtent, extent_with};
 ghost use Rattle.udf_file_model.specs.CutEntry.{AreBytes, IsCut, cut_entry};
@@ -24,7 +24,8 @@ ghost use Rattle.udf_file_model.specs.Place.{IsPlacedFront, Place, placed_front}
 ghost use Rattle.udf_file_model.specs.Name.{Canonical, IsSameName, canonical, canonical_cmp};
 
 /// The entry's own block and the addresses of its list are pairwise different, and those of the list are placed. A good list
-/// rests on its entry's block and its allocation extents alone. An embedded entry has no list, and nothing of that fails.
+/// rests on its entry's block and its allocation extents alone; one that fails also on what is no whole extent. An embedded
+/// entry has no list, and nothing of that fails.
 pub fn list_law()
     ensures apart { (v : Volume) (a : Addr) (e : Entry) → 0 < v.size → AllPairs (λ x y. x ≢ y) (a ∷ addresses v.size (list_for v a e)) }
     ensures placed { (v : Volume) (a : Addr) (e : Entry) → 0 < v.size
@@ -32,6 +33,9 @@ pub fn list_law()
     ensures local { (v : Volume) (disk : ℕ → List ℕ) (a : Addr) (e : Entry) → is_good_for v a e ≡ true
         → ((x : Addr) → IsAmong x (list_for v a e) → extent_at v x ≡ extent_at (with_disk v disk) x)
         → (list_for (with_disk v disk) a e ≡ list_for v a e) × (is_good_for (with_disk v disk) a e ≡ true) }
+    ensures failing { (v : Volume) (disk : ℕ → List ℕ) (a : Addr) (e : Entry)
+        → ((x : Addr) → IsAmong x (list_for v a e) ⊎ (is_extent v x ≡ false) → extent_at v x ≡ extent_at (with_disk v disk) x)
+        → (list_for (with_disk v disk) a e ≡ list_for v a e) × (is_good_for (with_disk v disk) a e ≡ is_good_for v a e) }
     ensures embedded { (v : Volume) (a : Addr) (e : Entry) → e.kind ≡ 3 → (list_for v a e ≡ []) × (is_good_for v a e ≡ true) }
 {}
 
