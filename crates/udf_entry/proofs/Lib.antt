@@ -13,3 +13,4 @@ pub mod RunBytes
 pub mod Bodied
 pub mod InBlock
 pub mod CutBlocks
+pub mod TestParts

@@ -63,22 +63,26 @@ fn extent_to_itself() -> [u8; 512] {
 }
 
 // A bench whose image has an allocation extent in block 4 of a partition from sector 257 on.
-fn bench_with(alloc: Global, extent: &[u8; 512]) -> Result<MemBench, ListStop>
-    ensures attached { IfOk result (λ bench. IsAttached Image (files_in bench)) }
-    ensures size { IfOk result (λ bench. (files_in bench).image.size ≡ 524288) }
+fn bench_with(alloc: Global, bytes: u64, extent: &[u8; 512]) -> Result<MemBench, ListStop>
+    ensures { IfOk result (λ bench. IsAttached Image (files_in bench)) }
 {
-    let mut bench = MemBench::sparse(alloc, 524_288);
+    let mut bench = MemBench::sparse(alloc, bytes);
     bench.attach(Role::Image, "a.img", Access::Write)?;
+    if bench.length(Role::Image)? < 134_144 {
+        return Err(ListStop::Fault);
+    }
     bench.write_at(Role::Image, 261 * 512, extent)?;
     Ok(bench)
 }
 
 // The list of an entry at block 3 of the partition, and the bytes of its content up to 2000.
-#[tactic(auto, unfolding(udf_model::specs::Size::is_size))]
+#[tactic(auto, using(crate::proofs::TestParts::inside), unfolding(udf_model::specs::Size::is_size))]
 fn read_with(alloc: Global, bench: &mut MemBench, entry: &[u8; 512]) -> Result<(List, usize), ListStop>
-    requires attached { IsAttached Image (files_in bench.old) }
-    requires size { (files_in bench.old).image.size ≡ 524288 }
+    requires { IsAttached Image (files_in bench.old) }
 {
+    if bench.length(Role::Image)? < 524_288 {
+        return Err(ListStop::Fault);
+    }
     let parts = One::new(Physical::new(257, 750));
     let at = Addr { part: 0, block: 3 };
     let list = list_of(alloc, bench, &parts, at, entry)?;
@@ -89,7 +93,7 @@ fn read_with(alloc: Global, bench: &mut MemBench, entry: &[u8; 512]) -> Result<(
 // The runs, the block of the last of them, the allocation extents, whether all is good, and the good length of a list, and the
 // bytes of its content.
 fn chain_read(alloc: Global) -> Result<(u64, u32, u32, bool, u64, usize), ListStop> {
-    let mut bench = bench_with(alloc, &extent_to_itself())?;
+    let mut bench = bench_with(alloc, 524_288, &extent_to_itself())?;
     let (list, bytes) = read_with(alloc, &mut bench, &entry(3, 1536, short(3, 4), 0, 16))?;
     let runs = list.len();
     let last = if runs == 0 {
