@@ -1,5 +1,5 @@
 -- Contents, block by block and run by run.
-use Rattle.std.proofs.Common.{◌≡◌, ℕ, zero, suc, Bool, true, false, cond, min, ◌+◌, ◌-◌, ◌<◌, ◌≤◌, ◌==◌, List, [], ◌∷◌, ◌++◌, append_assoc, length, take, drop, Option, Some, None, arith, sym, ◌∙◌, ap, refl, length-append}
+use Rattle.std.proofs.Common.{◌≡◌, ℕ, zero, suc, false, cond, min, ◌+◌, ◌-◌, ◌<◌, ◌≤◌, ◌==◌, List, [], ◌∷◌, ◌++◌, append_assoc, length, take, Option, Some, None, arith, sym, ◌∙◌, ap, refl, length-append}
 use Rattle.std.specs.Prelude.{replicate, Result, Ok, Err, OnOk}
 use Rattle.std.proofs.lemmas.List.{append-nil, length-take, take_all}
 use Rattle.udf_field.specs.declared.address.Addr.{Addr}
@@ -79,15 +79,18 @@ module _ (v : Volume) (part block w : ℕ) (first : List ℕ) where
 
   pub one_appended : (content new : List ℕ) (i left : ℕ) → Appended content i → left ≡ length first + w - length content
       → new ≡ content ++ take left (block_at v (addr part (block + i))) → Appended new (i + 1)
-  one_appended content new i left h l e = record { is =
-      e ∙ ap (λ c. c ++ take left (block_at v (addr part (block + i)))) h.is
-      ∙ append_assoc first (take w xs) (take left (block_at v (addr part (block + i))))
-      ∙ ap (λ n. first ++ (take w xs ++ take n (block_at v (addr part (block + i))))) left_is
-      ∙ ap (λ z. first ++ z) (take_both w xs (block_at v (addr part (block + i))) ∙ ap (take w) (sym (blocks_more v part i block)))
-      ∙ ap (λ n. first ++ take w (blocks_from v part block n)) (let e : suc i ≡ i + 1 = omega arith in e) }
+  one_appended content new i left h l e = record {
+    is =
+        e ∙ ap (λ c. c ++ take left (block_at v (addr part (block + i)))) h.is
+        ∙ append_assoc first (take w xs) (take left (block_at v (addr part (block + i))))
+        ∙ ap (λ n. first ++ (take w xs ++ take n (block_at v (addr part (block + i))))) left_is
+        ∙ ap (λ z. first ++ z) (take_both w xs (block_at v (addr part (block + i))) ∙ ap (take w) (sym (blocks_more v part i block)))
+        ∙ ap (λ n. first ++ take w (blocks_from v part block n)) (let e : suc i ≡ i + 1 = omega arith in e);
+  }
     where
       xs : List ℕ
       xs = blocks_from v part block i
+
       left_is : left ≡ w - length (take w xs)
       left_is = omega (arith, l, ap length h.is, length-append first (take w xs))
 
@@ -100,13 +103,16 @@ module _ (v : Volume) (part block w : ℕ) (first : List ℕ) where
           sym (append-nil (take w (blocks_from v part block m)))
           ∙ ap (λ n. take w (blocks_from v part block m) ++ take n (block_at v (addr part (block + m)))) (let z : 0 ≡ w - length (take w (blocks_from v part block m)) = omega (arith, e) in z)
           ∙ take_both w (blocks_from v part block m) (block_at v (addr part (block + m))) ∙ ap (take w) (sym (blocks_more v part m block))
+
       at_i : length (take w (blocks_from v part block i)) ≡ w
       at_i = omega (arith, long, ap length h.is, length-append first (take w (blocks_from v part block i)), length-take w (blocks_from v part block i))
+
       both : (d m : ℕ) → i + d ≡ m → (take w (blocks_from v part block i) ≡ take w (blocks_from v part block m))
       both zero m e = ap (λ n. take w (blocks_from v part block n)) (let z : i ≡ m = omega (arith, e) in z)
       both (suc d) m e =
           let one = both d (i + d) refl in
           one ∙ full (i + d) (sym (ap length one) ∙ at_i) ∙ ap (λ n. take w (blocks_from v part block n)) (let z : suc (i + d) ≡ m = omega (arith, e) in z)
+
       grow : (d m : ℕ) → i + d ≡ m → take w (blocks_from v part block i) ≡ take w (blocks_from v part block m)
       grow d m e = both d m e
 
@@ -133,6 +139,7 @@ run_zeros v d w many old new k m e =
   where
     zeros : ℕ → List ℕ
     zeros m = replicate m 0
+
     take_replicate : (n m : ℕ) → take n (zeros m) ≡ zeros (min n m)
     take_replicate zero m = ap zeros (let z : 0 ≡ min 0 m = omega arith in z)
     take_replicate (suc n) zero = ap zeros (let z : 0 ≡ min (suc n) 0 = omega arith in z)

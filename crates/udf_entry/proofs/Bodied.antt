@@ -1,5 +1,5 @@
 -- The bodies of entries in their blocks.
-use Rattle.std.proofs.Common.{◌≡◌, ◌+◌, ◌≤◌, ℕ, List, length, drop, arith}
+use Rattle.std.proofs.Common.{◌≡◌, ◌+◌, ℕ, List, length, drop, arith}
 use Rattle.std.proofs.lemmas.List.{length-take-le, length-drop}
 use Rattle.udf_file_model.specs.Entry.{attribute_bytes, descriptor_bytes, body_of}
 use Rattle.udf_entry.specs.Opened.{IsOpened}

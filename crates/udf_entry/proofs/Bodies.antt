@@ -1,5 +1,5 @@
 -- The descriptors of a body, as the code reads them.
-use Rattle.std.proofs.Common.{◌≡◌, ℕ, Bool, true, false, ◌+◌, ◌<◌, ◌≤◌, List, ◌∷◌, length, sym, ◌∙◌, ap, subst, Option}
+use Rattle.std.proofs.Common.{◌≡◌, ℕ, Bool, true, false, ◌+◌, ◌<◌, ◌≤◌, List, ◌∷◌, length, sym, ◌∙◌, ap, subst}
 use Rattle.udf_field.specs.declared.address.Addr.{Addr}
 use Rattle.udf_file_model.specs.Descriptors.{Descriptor, descriptor_at, descriptor_count, descriptors, descriptors_from}
 use Rattle.udf_file_model.specs.Pieces.{Piece, Extent, pieces}
@@ -40,7 +40,7 @@ module _ (r : Rules) (kind : ℕ) (holder : Addr) (body : List ℕ) (n : ℕ) (f
       → ended after false ≡ outcome r whole first (pieces k (descriptors kind holder body))
   fails_here q past i d after e h walk is some here same fails front k whole =
       let f : after ≡ with_front past (run_front r past (at i)) =
-          front ∙ ap (λ x. with_front past (run_front x past d)) same ∙ ap (λ x. with_front past (run_front r past x)) is in
+      front ∙ ap (λ x. with_front past (run_front x past d)) same ∙ ap (λ x. with_front past (run_front r past x)) is in
       let p : run_passes r past (at i) ≡ false = sym (ap (λ x. run_passes r past x) is) ∙ sym (ap (λ x. run_passes x past d) same) ∙ sym fails in
       ap (λ x. ended x false) f
       ∙ body_fails r at n first past i h walk (λ z. some (ap (λ x. x.length) is ∙ z)) (λ z. here (ap (λ x. x.kind) is ∙ z)) p k whole

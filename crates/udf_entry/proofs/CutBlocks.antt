@@ -1,19 +1,19 @@
 -- Entries and allocation extents that are cut, as they stand in their blocks.
-use Rattle.std.proofs.Common.{◌≡◌, ℕ, zero, suc, Bool, true, false, cond, ◌+◌, ◌-◌, ◌*◌, ◌/◌, ◌^◌, ◌<◌, ◌≤◌, ◌==◌, ◌&&◌, nat_le, ◌⊎◌, inl, inr, List, [], length, take, drop, Option, Some, None, arith, sym, ◌∙◌, ap, refl, subst}
+use Rattle.std.proofs.Common.{◌≡◌, ℕ, zero, suc, Bool, true, false, cond, ◌+◌, ◌-◌, ◌*◌, ◌/◌, ◌^◌, ◌<◌, ◌≤◌, ◌==◌, ◌&&◌, nat_le, List, length, take, drop, Option, Some, None, arith, sym, ◌∙◌, ap, refl, subst}
 use Rattle.std.specs.Prelude.{option_map, is_some, not, IfSome}
 use Rattle.std.proofs.lemmas.Bool.Decides.{nat_tests}
-use Rattle.std.proofs.lemmas.List.{length-take-le, length-drop}
+use Rattle.std.proofs.lemmas.List.{length-take-le}
 use Rattle.std.proofs.Math.Nat.{le-div_iff_mul-le}
 use Rattle.udf_model.specs.Size.{is_size}
 use Rattle.udf_model.specs.Bytes.{IsBytes, number_at, with_number, written_at}
 use Rattle.udf_model.specs.Tag.{id_at, is_id, retagged}
 use Rattle.udf_model.proofs.Parts.{take_is_bytes, drop_is_bytes}
 use Rattle.udf_model.proofs.Written.{number_length}
-use Rattle.udf_file_model.specs.Entry.{Entry, entry_of, entry_in, entry_header, kind_at, body_of, attribute_bytes, descriptor_bytes, extent_body}
+use Rattle.udf_file_model.specs.Entry.{Entry, entry_of, entry_header, kind_at, body_of, attribute_bytes, descriptor_bytes, extent_body}
 use Rattle.udf_file_model.specs.Descriptors.{descriptor_count}
-use Rattle.udf_file_model.specs.CutBody.{width_of, with_last, with_length, first_of, extent_with, extent_first, extent_first_by}
+use Rattle.udf_file_model.specs.CutBody.{width_of, with_last, with_length, first_of, extent_with}
 use Rattle.udf_file_model.specs.CutEntry.{first_in, with_first, entry_first}
-use Rattle.udf_file_model.specs.Wanted.{Wanted, with_fields, fields_of, base_of, body_with, entry_with, own, with_cut}
+use Rattle.udf_file_model.specs.Wanted.{Wanted, with_fields, fields_of, base_of, entry_with, own}
 use Rattle.udf_file_model.proofs.InPlace.{first_stays}
 use Rattle.udf_file_model.proofs.Written.{drop_behind, first_written}
 use Rattle.udf_file_model.proofs.First.{first_is_bytes}
@@ -111,9 +111,9 @@ module _ (location header n last bytes : ℕ) (block : List ℕ) (e : Some heade
   cut_is base kept set listed new at many is last_is tag =
       tag ∙ ap (λ b. retagged location (b + kept - 16) listed) at ∙ ap (λ k. retagged location (base_of header block + k - 16) listed) (sym many)
       ∙ ap (retagged location (base_of header block + length w.body - 16))
-        (last_is ∙ ap (λ b. with_last b (width_of kind) n last set) at ∙ ap (with_last (base_of header block) (width_of kind) n last) is
-          ∙ sym (first_stays header w block (before location header w block (sym e)) h.room kind n last bytes refl (wide kind).0
-            (λ k. (can.embedded k, can.none k)) (λ k. can.many)))
+      (last_is ∙ ap (λ b. with_last b (width_of kind) n last set) at ∙ ap (with_last (base_of header block) (width_of kind) n last) is
+      ∙ sym (first_stays header w block (before location header w block (sym e)) h.room kind n last bytes refl (wide kind).0
+      (λ k. (can.embedded k, can.none k)) (λ k. can.many)))
 
   pub cut_read : (new : List ℕ) → IsBytes block → is_size (length block) ≡ true → location < 2 ^ 32 → bytes < 2 ^ 64 → new ≡ entry_with location header w block
       → entry_of location new ≡ option_map (entry_first n last bytes) (entry_of location block)
@@ -125,12 +125,14 @@ module _ (location header n last bytes : ℕ) (block : List ℕ) (e : Some heade
     where
       body_bytes : IsBytes (body_of header block)
       body_bytes = unfold body_of in take_is_bytes (descriptor_bytes header block) (drop (header + attribute_bytes header block) block) (drop_is_bytes (header + attribute_bytes header block) block all)
+
       first_bytes : IsBytes (first_in kind n last bytes (body_of header block))
       first_bytes = by (kind == 3)
         where
           by : (t : Bool) → IsBytes (cond t (take bytes (body_of header block)) (first_of kind n last (body_of header block)))
           by true = take_is_bytes bytes (body_of header block) body_bytes
           by false = first_is_bytes kind n last (body_of header block) body_bytes
+
       shorter : length (first_in kind n last bytes (body_of header block)) ≤ descriptor_bytes header block
       shorter = by (kind == 3) refl
         where
@@ -151,8 +153,10 @@ extent_bytes location block old e = choose (is_id 258 (id_at location block) && 
   where
     no_some : None ≡ Some old → ⊥
     no_some e = cc
+
     same : (x : List ℕ) → Some x ≡ Some old → x ≡ old
     same x e = cc
+
     choose : (t : Bool) → cond t (Some (take (number_at 4 block 20) (drop 24 block))) None ≡ Some old → old ≡ take (number_at 4 block 20) (drop 24 block)
     choose true e = sym (same (take (number_at 4 block 20) (drop 24 block)) e)
     choose false e = absurd (no_some e)
@@ -180,12 +184,12 @@ module _ (location kind n last : ℕ) (block old : List ℕ) (e : extent_body lo
       let set_long : length set ≡ length block = ap length s ∙ number_length 4 20 kept block (omega (arith, open_.room)) in
       let behind : drop 24 set ≡ drop 24 block = ap (drop 24) s ∙ drop_behind 4 20 kept 24 block (omega arith) (omega (arith, open_.room)) in
       let old_is : old ≡ take (length old) (drop 24 set) =
-          extent_bytes location block old e ∙ ap (λ m. take m (drop 24 block)) open_.bytes ∙ ap (take (length old)) (sym behind) in
+      extent_bytes location block old e ∙ ap (λ m. take m (drop 24 block)) open_.bytes ∙ ap (take (length old)) (sym behind) in
       t ∙ ap (λ m. retagged location (8 + m) listed) (sym long)
       ∙ ap (retagged location (8 + length body)) (
-          l ∙ sym (first_written 24 kind n last (length old) set (omega (arith, set_long, open_.room)) (wide kind).0 extent_fits)
-          ∙ ap (λ o. written_at 24 (first_of kind n last o) set) (sym old_is)
-          ∙ ap (written_at 24 body) set_is)
+      l ∙ sym (first_written 24 kind n last (length old) set (omega (arith, set_long, open_.room)) (wide kind).0 extent_fits)
+      ∙ ap (λ o. written_at 24 (first_of kind n last o) set) (sym old_is)
+      ∙ ap (written_at 24 body) set_is)
 
   pub extent_read : (new : List ℕ) → IsBytes block → length block ≤ 4096 → location < 2 ^ 32 → new ≡ extent_with location (first_of kind n last old) block
       → extent_body location new ≡ option_map (first_of kind n last) (extent_body location block)

@@ -9,7 +9,6 @@ use Rattle.std.proofs.lemmas.Map.Steps.{length-le_from_distinct_below}
 use Rattle.udf_field.specs.declared.address.Addr.{Addr}
 use Rattle.udf_file_model.specs.Address.{same_addr}
 
-
 module _ (place : Addr → Option ℕ) (blocks : ℕ) where
   abbrev sector_by : Option ℕ → ℕ
   sector_by None = 0
@@ -57,15 +56,19 @@ module _ (place : Addr → Option ℕ) (blocks : ℕ) where
     where
       test : (code x ≡ code y → ⊥) → eqb (code x) (code y) ≡ false
       test h = grind (arith, nat_tests)
+
       same_true : (a b : Addr) → a ≡ b → same_addr a b ≡ true
       same_true a b e =
           let u : (a.part == b.part) ≡ true = grind (arith, nat_tests, ap (λ z. z.part) e) in
           let v : (a.block == b.block) ≡ true = grind (arith, nat_tests, ap (λ z. z.block) e) in
           ap (λ z. z && (a.block == b.block)) u ∙ v
+
       true_false : {P : Type 0} (b : Bool) → b ≡ true → b ≡ false → P
       true_false b e f = absurd (cc)
+
       same_part : x.part ≡ y.part → p.sector ≡ q.sector → ⊥
       same_part e f = true_false (same_addr x y) (same_true x y (apart x y q.sector e (p.here ∙ ap Some f) q.here)) off
+
       differ : (m n : ℕ) → x.part ≡ m → y.part ≡ n → m < 2 → n < 2 → m * blocks + p.sector ≡ n * blocks + q.sector → ⊥
       differ zero zero e f g h same = same_part (e ∙ sym f) (omega (arith, same))
       differ zero (suc zero) e f g h same = omega (arith, same, p.inside)

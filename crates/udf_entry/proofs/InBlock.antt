@@ -1,13 +1,13 @@
 -- Entries with set values, as they stand in their blocks.
-use Rattle.std.proofs.Common.{◌≡◌, ℕ, Bool, true, false, cond, ◌+◌, ◌-◌, ◌*◌, ◌^◌, ◌<◌, ◌≤◌, ◌==◌, ◌⊎◌, inl, inr, List, [], length, take, Option, Some, None, arith, sym, ◌∙◌, ap, refl, subst}
+use Rattle.std.proofs.Common.{◌≡◌, ℕ, true, ◌+◌, ◌-◌, ◌^◌, ◌<◌, ◌≤◌, List, length, Some, None, arith, sym, ◌∙◌, ap}
 use Rattle.std.specs.Prelude.{option_map}
 use Rattle.udf_model.specs.Size.{is_size}
 use Rattle.udf_model.specs.Bytes.{IsBytes}
 use Rattle.udf_model.specs.Tag.{retagged}
-use Rattle.udf_file_model.specs.Entry.{Entry, entry_of, entry_by, entry_in, entry_header, body_of, descriptor_bytes}
-use Rattle.udf_file_model.specs.Wanted.{Wanted, with_fields, fields_of, base_of, body_with, entry_with, own, with_links, with_id, with_no_stream, entry_linked, entry_identified, entry_streamless}
+use Rattle.udf_file_model.specs.Entry.{Entry, entry_of, entry_by, entry_in, entry_header, body_of}
+use Rattle.udf_file_model.specs.Wanted.{Wanted, with_fields, fields_of, base_of, entry_with, own, with_links, with_id, with_no_stream, entry_linked, entry_identified, entry_streamless}
 use Rattle.udf_file_model.proofs.Fields.{AllBefore}
-use Rattle.udf_file_model.proofs.Back.{Opened, opened, table}
+use Rattle.udf_file_model.proofs.Back.{opened, table}
 use Rattle.udf_file_model.proofs.InPlace.{own_stays}
 use Rattle.udf_file_model.proofs.Setting.{links_set, id_set, stream_cleared}
 use Rattle.udf_entry.specs.Opened.{IsOpened}

@@ -37,9 +37,11 @@ module _ (r : Rules) (v : Volume) (kind : ℕ) (body : List ℕ) (first : Past) 
   begins past next none read =
       let few : length past.extents ≡ 0 = ap length none in
       let all : 2 * v.blocks - length past.extents ≡ 2 * v.blocks = omega (arith, few) in
-      record { same =
-        ap (λ n. outcome_next r (is_extent v) past (further (descriptors_in v kind) n) next) all
-        ∙ read (further (descriptors_in v kind) (2 * v.blocks)) (is_extent v) }
+      record {
+        same =
+            ap (λ n. outcome_next r (is_extent v) past (further (descriptors_in v kind) n) next) all
+            ∙ read (further (descriptors_in v kind) (2 * v.blocks)) (is_extent v);
+      }
 
   further_step : (n m : ℕ) (x : Addr) → n ≡ suc m → further (descriptors_in v kind) n x ≡ pieces (further (descriptors_in v kind) m) (descriptors_in v kind x)
   unfolding further
@@ -47,15 +49,17 @@ module _ (r : Rules) (v : Volume) (kind : ℕ) (body : List ℕ) (first : Past) 
 
   pub steps : (q : Rules) (w : Volume) (past after : Past) (x : Addr) (at next : Next) → IsLeft r v kind body first past at → at ≡ Onward x → q ≡ r → w ≡ v
       → ((k : Addr → List Piece) (rest : List Piece) → (after.extents ≡ past.extents ++ x ∷ [] → rest ≡ pieces k (descriptors_in w kind x))
-          → outcome_next q (is_extent w) after k next ≡ outcome q (is_extent w) past (Extent x ∷ rest))
+      → outcome_next q (is_extent w) after k next ≡ outcome q (is_extent w) past (Extent x ∷ rest))
       → (after.extents ≡ past.extents ++ x ∷ [] → length past.extents + 1 ≤ 2 * v.blocks)
       → IsLeft r v kind body first after next
-  steps q w past after x at next left on same_r same_v read few = record { same =
-      sym (ap (λ z. outcome_next z (is_extent w) after (onward v kind (length after.extents)) next) same_r
+  steps q w past after x at next left on same_r same_v read few = record {
+    same =
+        sym (ap (λ z. outcome_next z (is_extent w) after (onward v kind (length after.extents)) next) same_r
         ∙ ap (λ z. outcome_next r (is_extent z) after (onward v kind (length after.extents)) next) same_v) ∙ one
-      ∙ (ap (λ z. outcome z (is_extent w) past (Extent x ∷ onward v kind (length past.extents) x)) same_r
+        ∙ (ap (λ z. outcome z (is_extent w) past (Extent x ∷ onward v kind (length past.extents) x)) same_r
         ∙ ap (λ z. outcome r (is_extent z) past (Extent x ∷ onward v kind (length past.extents) x)) same_v)
-      ∙ (sym (ap (λ z. outcome_next r (is_extent v) past (onward v kind (length past.extents)) z) on) ∙ left.same) }
+        ∙ (sym (ap (λ z. outcome_next r (is_extent v) past (onward v kind (length past.extents)) z) on) ∙ left.same);
+  }
     where
       longer : after.extents ≡ past.extents ++ x ∷ [] → onward v kind (length past.extents) x ≡ pieces (onward v kind (length after.extents)) (descriptors_in w kind x)
       longer e =
@@ -63,6 +67,7 @@ module _ (r : Rules) (v : Volume) (kind : ℕ) (body : List ℕ) (first : Past) 
           omega (arith, few e, ap length e, length-append past.extents (x ∷ [])) in
           further_step (2 * v.blocks - length past.extents) (2 * v.blocks - length after.extents) x n
           ∙ ap (λ z. pieces (onward v kind (length after.extents)) (descriptors_in z kind x)) (sym same_v)
+
       one : outcome_next q (is_extent w) after (onward v kind (length after.extents)) next ≡ outcome q (is_extent w) past (Extent x ∷ onward v kind (length past.extents) x)
       one = read (onward v kind (length after.extents)) (onward v kind (length past.extents) x) longer
 

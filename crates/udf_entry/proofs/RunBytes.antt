@@ -1,6 +1,6 @@
 -- The bytes of a list, run after run.
-use Rattle.std.proofs.Common.{◌≡◌, ℕ, zero, suc, true, cond, min, ◌==◌, ◌+◌, ◌-◌, ◌<◌, Option, Some, List, [], ◌∷◌, ◌++◌, length, map, take, get_or, arith, sym, ◌∙◌, ap, refl, add-one}
-use Rattle.std.proofs.lemmas.List.{map-append, length-take}
+use Rattle.std.proofs.Common.{◌≡◌, ℕ, zero, suc, true, cond, min, ◌==◌, ◌+◌, ◌-◌, ◌<◌, Option, Some, List, [], ◌∷◌, ◌++◌, length, take, get_or, arith, sym, ◌∙◌, ap}
+use Rattle.std.proofs.lemmas.List.{map-append}
 use Rattle.std.proofs.Math.Seq.{take-suc}
 use Rattle.std.proofs.lemmas.Bool.Decides.{nat_tests}
 use Rattle.udf_file_model.specs.Entry.{Entry}
@@ -30,7 +30,7 @@ one_run v end i left runs d content new low h l e =
     ∙ ap (λ n. take end xs ++ take n (run_bytes v (run_seen run))) (let z : left ≡ end - length (take end xs) = omega (arith, l, ap length h) in z)
     ∙ take_both end xs (run_bytes v (run_seen run))
     ∙ ap (take end) (sym (runs_more v (runs_seen (take i runs)) (run_seen run)) ∙ ap (runs_bytes v) (sym (map-append run_seen (take i runs) (run ∷ [])))
-      ∙ ap (λ rs. runs_bytes v (runs_seen rs)) (sym more))
+    ∙ ap (λ rs. runs_bytes v (runs_seen rs)) (sym more))
   where
     more : take (i + 1) runs ≡ take i runs ++ get_or runs i d ∷ []
     more = ap (λ n. take n runs) (let z : i + 1 ≡ suc i = omega arith in z) ∙ take-suc runs i d low

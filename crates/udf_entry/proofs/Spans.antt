@@ -32,11 +32,11 @@ module _ (runs : BTreeMap ℕ ℕ) where
       → ((q : ℕ) → q ≤ x → IsSome (at q) → q ≤ start) → count ≤ x - start → IsOff runs x
   off_by_last start count x apart here low last past k c h below above =
       elim (cases_lt k start) [
-        inl before ↦ omega (arith, apart.apart k start c count h here before)
-      | inr from ↦
-        let same : k ≡ start = omega (arith, last k below (some_at at k c h)) in
-        let counts : c ≡ count = some_same (sym h ∙ ap at same ∙ here) in
-        omega (arith, same, counts)
+        | inl before ↦ omega (arith, apart.apart k start c count h here before)
+        | inr from ↦
+            let same : k ≡ start = omega (arith, last k below (some_at at k c h)) in
+            let counts : c ≡ count = some_same (sym h ∙ ap at same ∙ here) in
+            omega (arith, same, counts)
       ]
     where
       some_same : {a b : ℕ} → Some a ≡ Some b → a ≡ b
@@ -49,16 +49,16 @@ module _ (runs : BTreeMap ℕ ℕ) where
   pub off_before : (start x y : ℕ) → IsOff runs x → ((q : ℕ) → x ≤ q → IsSome (at q) → start ≤ q) → x ≤ y → y < start → IsOff runs y
   off_before start x y off next from below k c h low high =
       elim (cases_lt x k) [
-        inl later ↦ omega (arith, next k (omega arith) (some_at at k c h))
-      | inr earlier ↦ off k c h earlier (omega arith)
+        | inl later ↦ omega (arith, next k (omega arith) (some_at at k c h))
+        | inr earlier ↦ off k c h earlier (omega arith)
       ]
 
   -- where nothing begins from a number on that is in no interval, no later number is in one
   pub off_after : (x y : ℕ) → IsOff runs x → ((q : ℕ) → x ≤ q → at q ≡ None) → x ≤ y → IsOff runs y
   off_after x y off none from k c h low high =
       elim (cases_lt x k) [
-        inl later ↦ no_some (sym (none k (omega arith)) ∙ h)
-      | inr earlier ↦ off k c h earlier (omega arith)
+        | inl later ↦ no_some (sym (none k (omega arith)) ∙ h)
+        | inr earlier ↦ off k c h earlier (omega arith)
       ]
     where
       no_some : None ≡ Some c → ⊥
@@ -82,9 +82,9 @@ module _ (old new : BTreeMap ℕ ℕ) (start count : ℕ) where
   apart_from adds apart some off l d h = (
     λ before. elim (cases_lt start (l + d)) [ inl in_it ↦ absurd (off start (omega arith) (omega arith) l d h (omega arith) in_it) | inr out ↦ out ],
     λ after. elim (cases_lt l (start + count)) [
-      inl in_it ↦ absurd (off l (omega arith) in_it l d h (omega arith) (omega (arith, apart.some l d h)))
-    | inr out ↦ out
-    ]
+      | inl in_it ↦ absurd (off l (omega arith) in_it l d h (omega arith) (omega (arith, apart.some l d h)))
+      | inr out ↦ out
+    ],
   )
 
   some_equal : {a b : ℕ} → Some a ≡ Some b → a ≡ b
@@ -94,15 +94,15 @@ module _ (old new : BTreeMap ℕ ℕ) (start count : ℕ) where
   which : Adds → (k c : ℕ) → tree.get nat_cmp new k ≡ Some c
       → ((k ≡ start) × (c ≡ count)) ⊎ ((k ≡ start → ⊥) × (tree.get nat_cmp old k ≡ Some c))
   which adds k c h = elim (cases_eq k start) [
-      inl e ↦ inl (e, some_equal (sym h ∙ ap (λ q. tree.get nat_cmp new q) e ∙ adds.here))
+    | inl e ↦ inl (e, some_equal (sym h ∙ ap (λ q. tree.get nat_cmp new q) e ∙ adds.here))
     | inr n ↦ inr (n, sym (adds.there k n) ∙ h)
-    ]
+  ]
     where
       cases_eq : (a b : ℕ) → (a ≡ b) ⊎ (a ≡ b → ⊥)
       cases_eq a b = elim (cases_lt a b) [
-          inl l ↦ inr (λ e. omega arith)
+        | inl l ↦ inr (λ e. omega arith)
         | inr l ↦ elim (cases_lt b a) [ inl g ↦ inr (λ e. omega arith) | inr g ↦ inl (omega arith) ]
-        ]
+      ]
 
   pub adds_apart : Adds → AreApart old → 0 < count → ((x : ℕ) → start ≤ x → x < start + count → IsOff old x) → AreApart new
   adds_apart adds apart some off = record { some = all_some; apart = all_apart }
@@ -110,14 +110,17 @@ module _ (old new : BTreeMap ℕ ℕ) (start count : ℕ) where
       some_by : (k c : ℕ) → ((k ≡ start) × (c ≡ count)) ⊎ ((k ≡ start → ⊥) × (tree.get nat_cmp old k ≡ Some c)) → 0 < c
       some_by k c (inl w) = omega (arith, w.1)
       some_by k c (inr w) = apart.some k c w.1
+
       all_some : (k c : ℕ) → tree.get nat_cmp new k ≡ Some c → 0 < c
       all_some k c h = some_by k c (which adds k c h)
+
       apart_by : (k l c d : ℕ) → ((k ≡ start) × (c ≡ count)) ⊎ ((k ≡ start → ⊥) × (tree.get nat_cmp old k ≡ Some c))
           → ((l ≡ start) × (d ≡ count)) ⊎ ((l ≡ start → ⊥) × (tree.get nat_cmp old l ≡ Some d)) → k < l → k + c ≤ l
       apart_by k l c d (inl w) (inl v) h = omega (arith, w.0, v.0)
       apart_by k l c d (inl w) (inr v) h = omega (arith, w.0, w.1, (apart_from adds apart some off l d v.1).1)
       apart_by k l c d (inr w) (inl v) h = omega (arith, v.0, v.1, (apart_from adds apart some off k c w.1).0)
       apart_by k l c d (inr w) (inr v) h = apart.apart k l c d w.1 v.1 h
+
       all_apart : (k l c d : ℕ) → tree.get nat_cmp new k ≡ Some c → tree.get nat_cmp new l ≡ Some d → k < l → k + c ≤ l
       all_apart k l c d g h = apart_by k l c d (which adds k c g) (which adds l d h)
 

@@ -1,5 +1,5 @@
 -- What intervals tell of what stood, after one more.
-use Rattle.std.proofs.Common.{◌≡◌, ℕ, zero, suc, cond, inl, inr, Bool, true, false, ◌+◌, ◌-◌, ◌<◌, ◌≤◌, ◌||◌, arith, sym, ◌∙◌, ap, subst, refl, List, [], ◌∷◌, ◌++◌, not, ◌&&◌, Option, Some, None}
+use Rattle.std.proofs.Common.{◌≡◌, ℕ, zero, suc, cond, inl, inr, Bool, true, false, ◌+◌, ◌-◌, ◌<◌, ◌≤◌, ◌||◌, arith, sym, ◌∙◌, ap, subst, refl, List, [], ◌∷◌, ◌++◌, not, ◌&&◌}
 use Rattle.std.specs.Prelude.{is_some}
 use Rattle.std.specs.List.{list_any}
 use Rattle.std.specs.BTreeMap.{BTreeMap}
@@ -40,9 +40,11 @@ tells_more old new start count before after extra tells added spans is = record 
     none : (b c : Bool) → b ≡ false → c ≡ false → (b || c) ≡ false
     none true c e f = e
     none false c e f = f
+
     apart : (b c : Bool) → (b || c) ≡ false → (b ≡ false) × (c ≡ false)
     apart true c h = absurd (cc)
     apart false c h = (refl, h)
+
     off_by : (b : Bool) (a : Addr) → extra a ≡ b → a.block < 8589934592 → IsOff new (number a) → extra a ≡ false
     off_by true a e low h = let t = spans.inside a low e in absurd (added.outside (number a) h t.0 t.1)
     off_by false a e low h = e
@@ -189,18 +191,21 @@ new_by r past part block (suc n) zero few all stop = sym (ap (λ t. cond t (suc 
   where
     same : block + 0 ≡ block
     same = omega arith
+
     here : is_new r past (addr part block) ≡ false
     here = sym (ap (λ b. is_new r past (addr part b)) same) ∙ stop (omega arith)
 new_by r past part block (suc n) (suc m) few all stop =
     ap suc (new_by r past part (block + 1) n m (omega arith)
-      (λ k l. ap (λ b. is_new r past (addr part b)) (next k) ∙ all (suc k) (omega arith))
-      (λ l. ap (λ b. is_new r past (addr part b)) (next m) ∙ stop (omega arith)))
+    (λ k l. ap (λ b. is_new r past (addr part b)) (next k) ∙ all (suc k) (omega arith))
+    (λ l. ap (λ b. is_new r past (addr part b)) (next m) ∙ stop (omega arith)))
     ∙ sym (ap (λ t. cond t (suc (new_blocks r past part (block + 1) n)) 0) here)
   where
     next : (k : ℕ) → block + 1 + k ≡ block + suc k
     next k = omega arith
+
     same : block + 0 ≡ block
     same = omega arith
+
     here : is_new r past (addr part block) ≡ true
     here = sym (ap (λ b. is_new r past (addr part b)) same) ∙ all 0 (omega arith)
 
@@ -213,41 +218,49 @@ new_run r past place runs at start count placed new is first low small tells man
   where
     within : IsPlacedFront (part_place place at.part) at.block count placed
     within = front_means (part_place place at.part) at.block count placed (sym many)
+
     number_is : (k : ℕ) → start + k ≡ number (addr at.part (at.block + k))
     number_is k = omega (arith, first)
+
     both : (a b : Bool) → a ≡ true → b ≡ false → (a && not b) ≡ true
     both true false e f = refl
     both true true e f = absurd (cc)
     both false b e f = absurd (cc)
+
     neither : (a b : Bool) → b ≡ true → (a && not b) ≡ false
     neither true true e = refl
     neither true false e = absurd (cc)
     neither false b e = refl
+
     off_place : (a b : Bool) → a ≡ false → (a && not b) ≡ false
     off_place true b e = absurd (cc)
     off_place false b e = refl
+
     placed_at : (k : ℕ) → k < placed → r.placed (addr at.part (at.block + k)) ≡ true
     placed_at k l = is (addr at.part (at.block + k)) ∙ within.placed k l
+
     each : (k : ℕ) → k < new → (r.placed (addr at.part (at.block + k)) && not (stood r.size r.own past (addr at.part (at.block + k)))) ≡ true
     each k l =
         let P : ℕ → Type 0 = λ n. IsOff runs n in
         both (r.placed (addr at.part (at.block + k))) (stood r.size r.own past (addr at.part (at.block + k))) (placed_at k (omega (arith, free.within, l)))
         (tells.off (addr at.part (at.block + k)) (omega (arith, l, free.within, within.within)) (subst P (number_is k) (free.off k l)))
+
     not_off : (b : Bool) → (b ≡ false → ⊥) → b ≡ true
     not_off true h = refl
     not_off false h = absurd (h refl)
+
     stop : new < count → (r.placed (addr at.part (at.block + new)) && not (stood r.size r.own past (addr at.part (at.block + new)))) ≡ false
     stop l = elim (cases_lt new placed) [
-        inl before ↦
+      | inl before ↦
           let P : ℕ → Type 0 = λ n. IsOff runs n in
           neither (r.placed (addr at.part (at.block + new))) (stood r.size r.own past (addr at.part (at.block + new)))
           (not_off (stood r.size r.own past (addr at.part (at.block + new)))
-            (λ e. free.ends before (subst P (sym (number_is new)) (tells.on (addr at.part (at.block + new)) (omega arith) e))))
+          (λ e. free.ends before (subst P (sym (number_is new)) (tells.on (addr at.part (at.block + new)) (omega arith) e))))
       | inr after ↦
           let same : new ≡ placed = omega (arith, free.within, after) in
           off_place (r.placed (addr at.part (at.block + new))) (stood r.size r.own past (addr at.part (at.block + new)))
           (is (addr at.part (at.block + new)) ∙ ap (λ n. is_some (place (addr at.part (at.block + n)))) same ∙ ap is_some (within.ends (omega (arith, same, l))))
-      ]
+    ]
 
 -- how many blocks of a descriptor are new, as it was counted
 pub new_is : (r : Rules) (past : Past) (d : Descriptor) (blocks new : ℕ) → blocks ≡ blocks_for r.size d.length

@@ -1,12 +1,12 @@
 -- The list that was read is the list of the definitions.
-use Rattle.std.proofs.Common.{◌≡◌, ℕ, Bool, true, false, cond, ◌||◌, ◌==◌, ◌*◌, ◌<◌, ◌≤◌, List, [], Option, Some, None, arith, sym, ◌∙◌, ap, refl, length}
+use Rattle.std.proofs.Common.{◌≡◌, ℕ, Bool, true, false, cond, ◌||◌, ◌==◌, ◌*◌, ◌≤◌, List, [], Some, None, arith, ◌∙◌, ap, refl, length}
 use Rattle.std.proofs.lemmas.Bool.Decides.{nat_tests}
 use Rattle.udf_model.specs.Size.{is_size}
 use Rattle.udf_field.specs.declared.address.Addr.{Addr}
 use Rattle.udf_file_model.specs.Address.{Places}
 use Rattle.udf_file_model.specs.Entry.{Entry, entry_of, is_directory}
 use Rattle.udf_file_model.specs.Descriptors.{Descriptor, descriptors}
-use Rattle.udf_file_model.specs.Pieces.{flat, bytes_in, runs_of, extents_of}
+use Rattle.udf_file_model.specs.Pieces.{flat, bytes_in}
 use Rattle.udf_file_model.specs.Front.{Past, nothing_yet}
 use Rattle.udf_file_model.specs.Listing.{Volume, Listing, volume_of, is_extent, descriptors_in, rules_for, flat_for, list_for, is_good_for, good_length, listing, listing_by, listing_at}
 use Rattle.udf_entry.specs.Outcome.{Outcome, outcome, ended}
@@ -21,6 +21,7 @@ size_bounds n h = choose (n == 512) (n == 1024) (n == 2048) (n == 4096) refl ref
   where
     same : (m : ℕ) → (n == m) ≡ true → n ≡ m
     same m e = grind (arith, nat_tests)
+
     choose : (a b c d : Bool) → (n == 512) ≡ a → (n == 1024) ≡ b → (n == 2048) ≡ c → (n == 4096) ≡ d → (a || (b || (c || d))) ≡ true → (512 ≤ n) × (n ≤ 4096)
     choose true b c d e f g i h = let s = same 512 e in (omega arith, omega arith)
     choose false true c d e f g i h = let s = same 1024 f in (omega arith, omega arith)
@@ -72,15 +73,15 @@ module _ (image : List ℕ) (place : Places) (size : ℕ) (a : Addr) (block : Li
   list_is e directory information kind body start reading good list rules reads dir info of_kind of_body are same past outcome_is runs extents many ok =
       let v = volume_of size image place in
       let one : ended (past_of reading) good ≡ read (rules_are (is_directory e) e.information) nothing_yet e.kind e.body =
-          outcome_is ∙ ap (λ z. read z (past_of start) kind body) (same ∙ are)
-          ∙ ap (λ z. read (rules_are z information) (past_of start) kind body) dir
-          ∙ ap (λ z. read (rules_are (is_directory e) z) (past_of start) kind body) info
-          ∙ ap (λ z. read (rules_are (is_directory e) e.information) z kind body) past
-          ∙ ap (λ z. read (rules_are (is_directory e) e.information) nothing_yet z body) of_kind
-          ∙ ap (λ z. read (rules_are (is_directory e) e.information) nothing_yet e.kind z) of_body in
+      outcome_is ∙ ap (λ z. read z (past_of start) kind body) (same ∙ are)
+      ∙ ap (λ z. read (rules_are z information) (past_of start) kind body) dir
+      ∙ ap (λ z. read (rules_are (is_directory e) z) (past_of start) kind body) info
+      ∙ ap (λ z. read (rules_are (is_directory e) e.information) z kind body) past
+      ∙ ap (λ z. read (rules_are (is_directory e) e.information) nothing_yet z body) of_kind
+      ∙ ap (λ z. read (rules_are (is_directory e) e.information) nothing_yet e.kind z) of_body in
       let sum = bytes_in (past_of reading).runs in
       let bytes_is : list.good_length ≡ cond (e.kind == 3) (length e.body) sum =
-          many ∙ ap (λ k. cond (k == 3) (length body) sum) of_kind ∙ ap (λ l. cond (e.kind == 3) (length l) sum) of_body in
+      many ∙ ap (λ k. cond (k == 3) (length body) sum) of_kind ∙ ap (λ l. cond (e.kind == 3) (length l) sum) of_body in
       same_listing list (past_of reading) (cond (e.kind == 3) (length e.body) sum) good runs extents bytes_is ok
       ∙ told_list v a e (past_of reading) good one
       ∙ ap (listing_by v a) reads

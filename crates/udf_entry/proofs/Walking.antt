@@ -83,8 +83,10 @@ module _ (r : Rules) (at : ℕ → Descriptor) (n : ℕ) (first : Past) where
 
   pub body_goes_on : (past : Past) (i : ℕ) → i < n → InBody past i → ((at i).length ≡ 0 → ⊥) → ((at i).kind ≡ 3 → ⊥) → run_passes r past (at i) ≡ true
       → InBody (with_run past (at i)) (i + 1)
-  body_goes_on past i h body some e f = record { same = λ k whole.
-      sym (run_goes_on r whole past (at i) (pieces k (descriptors_from at (i + 1) (n - (i + 1)))) f) ∙ here past i h body some e k whole }
+  body_goes_on past i h body some e f = record {
+    same = λ k whole.
+        sym (run_goes_on r whole past (at i) (pieces k (descriptors_from at (i + 1) (n - (i + 1)))) f) ∙ here past i h body some e k whole;
+  }
 
 -- the descriptors that are counted lie in the body
 module _ (kind bytes i : ℕ) where

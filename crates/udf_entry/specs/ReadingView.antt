@@ -1,5 +1,5 @@
 -- What was read of a list so far, and by which rules.
-use Rattle.std.specs.Prelude.{◌≡◌, ◌⊎◌, ℕ, true, is_some, List, [], ◌∷◌, ◌++◌}
+use Rattle.std.specs.Prelude.{◌≡◌, ◌⊎◌, true, is_some, [], ◌∷◌, ◌++◌}
 use Rattle.udf_field.specs.declared.address.Addr.{Addr}
 use Rattle.udf_file_model.specs.Address.{Places}
 use Rattle.udf_file_model.specs.Front.{Past, is_new}

@@ -38,7 +38,7 @@ pub(crate) fn read_body<P: Parts>(
     requires { length body.now < 2 ^ 32 }
     ensures outcome { IfOk result (λ t. (k : Addr → List Piece) (whole : Addr → Bool)
         → outcome_next (rules_seen reading.rules (P.place parts.now)) whole (past_of t.0) k t.1
-            ≡ outcome (rules_seen reading.rules (P.place parts.now)) whole (past_of reading) (pieces k (descriptors kind holder body.now))) }
+        ≡ outcome (rules_seen reading.rules (P.place parts.now)) whole (past_of reading) (pieces k (descriptors kind holder body.now))) }
     ensures rules { IfOk result (λ t. t.0.rules ≡ reading.rules) }
     ensures extents { IfOk result (λ t. t.0.extents.items ≡ reading.extents.items) }
 {

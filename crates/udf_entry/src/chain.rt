@@ -39,7 +39,7 @@ pub(crate) fn read_list<B: Bench, P: Parts>(
         let v = volume_of start.rules.size (bytes_of Image (B.held bench.old)) (P.place parts.now) in
         ended (past_of t.0) t.1
         ≡ outcome (rules_seen start.rules (P.place parts.now)) (is_extent v) (past_of start)
-            (flat (descriptors_in v kind) (2 * v.blocks) (descriptors kind start.rules.own body.now))) }
+        (flat (descriptors_in v kind) (2 * v.blocks) (descriptors kind start.rules.own body.now))) }
     ensures reads { OnlyReads B.files B.held B.faults bench.old bench.new ListStop.Fault result }
 {
     let own = start.rules.own;

@@ -116,7 +116,16 @@ fn append_run<B: Bench, P: Parts>(
 {
     let many = want.min(run.length as usize);
     if run.kind == RECORDED {
-        append_blocks(bench, parts, size, run.at, blocks_of(size, run.length), many, room, content)
+        append_blocks(
+            bench,
+            parts,
+            size,
+            run.at,
+            blocks_of(size, run.length),
+            many,
+            room,
+            content,
+        )
     } else {
         content.resize(content.len() + many, 0)?;
         Ok(())
@@ -165,7 +174,7 @@ pub fn content_of<B: Bench, P: Parts>(
     requires placed { (a : Addr) (s : ℕ) → P.place parts.now a ≡ Some s → s < (B.files bench.old).image.size / length block.now }
     ensures content { B.tells → IfOk result (λ content. content.items
         ≡ content_by (volume_of (length block.now) (bytes_of Image (B.held bench.old)) (P.place parts.now)) list.now.runs limit
-            (entry_of (location block.now) block.now)) }
+        (entry_of (location block.now) block.now)) }
     ensures reads { OnlyReads B.files B.held B.faults bench.old bench.new ListStop.Fault result }
 {
     let Some(entry) = read_entry(block, Fields::over(block).u32_at(LOCATION_AT)) else {
@@ -178,5 +187,13 @@ pub fn content_of<B: Bench, P: Parts>(
         return Ok(Vec::from_slice(alloc, &body[..many])?);
     }
     let mut room = vec![in alloc; 0; block.len()]?;
-    read_runs(alloc, bench, parts, block.len() as u32, list.runs(), end, &mut room)
+    read_runs(
+        alloc,
+        bench,
+        parts,
+        block.len() as u32,
+        list.runs(),
+        end,
+        &mut room,
+    )
 }

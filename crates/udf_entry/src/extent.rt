@@ -36,7 +36,7 @@ pub(crate) fn read_extent<B: Bench, P: Parts>(
         → let v = volume_of reading.rules.size (bytes_of Image (B.held bench.old)) (P.place parts.now) in
         (t.0.extents.items ≡ reading.extents.items ++ (x ∷ []) → rest ≡ pieces k (descriptors_in v kind x))
         → outcome_next (rules_seen reading.rules (P.place parts.now)) (is_extent v) (past_of t.0) k t.1
-            ≡ outcome (rules_seen reading.rules (P.place parts.now)) (is_extent v) (past_of reading) (Extent x ∷ rest)) }
+        ≡ outcome (rules_seen reading.rules (P.place parts.now)) (is_extent v) (past_of reading) (Extent x ∷ rest)) }
     ensures grows { IfOk result (Grows reading (P.place parts.now) x) }
     ensures rules { IfOk result (λ t. t.0.rules ≡ reading.rules) }
     ensures reads { OnlyReads B.files B.held B.faults bench.old bench.new ListStop.Fault result }

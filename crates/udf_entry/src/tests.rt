@@ -7,8 +7,7 @@ ghost use Rattle.udf_file_model.specs.Entry.{entry_of};
 ghost use Rattle.udf_file_model.specs.Descriptors.{descriptor_count};
 
 use crate::{
-    IcbFlags, List, ListStop, clear_stream, content_of, cut, list_of, read_entry, set_id,
-    set_links,
+    IcbFlags, List, ListStop, clear_stream, content_of, cut, list_of, read_entry, set_id, set_links,
 };
 use bitflags::Flags;
 use std::alloc::Global;
@@ -77,7 +76,11 @@ fn bench_with(alloc: Global, bytes: u64, extent: &[u8; 512]) -> Result<MemBench,
 
 // The list of an entry at block 3 of the partition, and the bytes of its content up to 2000.
 #[tactic(auto, using(crate::proofs::TestParts::inside), unfolding(udf_model::specs::Size::is_size))]
-fn read_with(alloc: Global, bench: &mut MemBench, entry: &[u8; 512]) -> Result<(List, usize), ListStop>
+fn read_with(
+    alloc: Global,
+    bench: &mut MemBench,
+    entry: &[u8; 512],
+) -> Result<(List, usize), ListStop>
     requires { IsAttached Image (files_in bench.old) }
 {
     if bench.length(Role::Image)? < 524_288 {
@@ -101,7 +104,14 @@ fn chain_read(alloc: Global) -> Result<(u64, u32, u32, bool, u64, usize), ListSt
     } else {
         list.run(runs - 1).at.block
     };
-    Ok((runs, last, list.extents(), list.good(), list.good_length(), bytes))
+    Ok((
+        runs,
+        last,
+        list.extents(),
+        list.good(),
+        list.good_length(),
+        bytes,
+    ))
 }
 
 // Cuts a block to its first descriptor, where it holds one.

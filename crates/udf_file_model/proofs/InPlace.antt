@@ -1,12 +1,12 @@
 -- The body of an entry whose fields are set, where it stays, and where its first descriptors are kept.
-use Rattle.std.proofs.Common.{◌≡◌, ℕ, zero, suc, Bool, true, false, cond, ◌+◌, ◌-◌, ◌*◌, ◌<◌, ◌≤◌, ◌==◌, ◌⊎◌, List, [], ◌∷◌, length, take, drop, arith, sym, ◌∙◌, ap, refl}
+use Rattle.std.proofs.Common.{◌≡◌, ℕ, zero, suc, Bool, true, false, cond, ◌+◌, ◌-◌, ◌*◌, ◌≤◌, ◌==◌, List, length, take, drop, arith, sym, ◌∙◌, ap, refl}
 use Rattle.std.proofs.lemmas.Bool.Decides.{nat_tests}
 use Rattle.std.proofs.lemmas.List.{length-take-le, length-drop}
 use Rattle.udf_model.specs.Bytes.{written_at}
 use Rattle.udf_file_model.specs.Entry.{attribute_bytes, descriptor_bytes, body_of}
 use Rattle.udf_file_model.specs.CutBody.{width_of, with_last, first_of}
 use Rattle.udf_file_model.specs.CutEntry.{first_in}
-use Rattle.udf_file_model.specs.Wanted.{Field, Wanted, with_fields, fields_of, base_of, body_with}
+use Rattle.udf_file_model.specs.Wanted.{Wanted, with_fields, fields_of, base_of, body_with}
 use Rattle.udf_file_model.proofs.Fields.{AllBefore, before_all, before_length, fields_behind}
 use Rattle.udf_file_model.proofs.Written.{same_written, first_written, take_take}
 
@@ -53,8 +53,10 @@ module _ (header : ℕ) (w : Wanted) (block : List ℕ) (before : AllBefore head
       none : (m : ℕ) → m ≡ 0 → set ≡ with_last base (width_of kind) m last set
       none zero z = unfold with_last in refl
       none (suc m) z = absurd (omega (arith, z))
+
       body_is : (t : Bool) → (kind == 3) ≡ t → w.body ≡ cond t (take bytes (body_of header block)) (first_of kind n last (body_of header block))
       body_is t q = e ∙ ap (λ b. cond b (take bytes (body_of header block)) (first_of kind n last (body_of header block))) q
+
       choose : (t : Bool) → (kind == 3) ≡ t → body_with header w block ≡ with_last base (width_of kind) n last set
       choose true q =
           let k : kind ≡ 3 = grind (arith, nat_tests) in

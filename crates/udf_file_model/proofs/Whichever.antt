@@ -38,8 +38,10 @@ module _ (r : Rules) (whole other : Addr → Bool) where
     where
       join : (a b : Bool) → is_new r past x ≡ a → other x ≡ b → (is_new r past x && other x) ≡ (a && b)
       join a b e f = ap (λ t. t && other x) e ∙ ap (λ t. a && t) f
+
       here : (a b : Bool) → is_new r past x ≡ a → whole x ≡ b → (is_new r past x && whole x) ≡ (a && b)
       here a b e f = ap (λ t. t && whole x) e ∙ ap (λ t. a && t) f
+
       choose : (a b : Bool) → is_new r past x ≡ a → whole x ≡ b → (is_new r past x && other x) ≡ (is_new r past x && whole x)
       choose false b e f = join false (other x) e refl ∙ sym (here false b e f)
       choose true false e f = join true false e (agree (inr f) ∙ f) ∙ sym (here true false e f)
@@ -52,6 +54,7 @@ module _ (r : Rules) (whole other : Addr → Bool) where
     where
       moved : (t : Bool) → extent_passes r whole past x ≡ t → extent_passes r other past x ≡ t
       moved t e = passes_alike past x ps same ∙ e
+
       choose : (t : Bool) → extent_passes r whole past x ≡ t → Alike past (Extent x ∷ ps) (Extent x ∷ qs)
       choose true e =
           let a = on e in
@@ -97,16 +100,20 @@ module _ (r : Rules) (whole other : Addr → Bool) where
       where
         none : good_front r other past [] ≡ good_front r whole past []
         none = unfold good_front in refl
+
         none_good : is_good r other past [] ≡ is_good r whole past []
         none_good = unfold is_good in refl
     pieces_alike k j on (d ∷ ds) past agree = by_more (d.kind == 3) refl (λ p a. pieces_alike k j on ds p a)
       where
         Agree : Past → List Piece → Type 0
         Agree p ps = (y : Addr) → IsAmong y (good_front r whole p ps) ⊎ (whole y ≡ false) → (other y ≡ whole y) × (to y ≡ at y)
+
         moved : (ps qs : List Piece) → pieces k (d ∷ ds) ≡ ps → pieces j (d ∷ ds) ≡ qs → Alike past ps qs → Alike past (pieces k (d ∷ ds)) (pieces j (d ∷ ds))
         moved ps qs e f a = record { front = ap (good_front r other past) f ∙ a.front ∙ sym (ap (good_front r whole past) e); good = ap (is_good r other past) f ∙ a.good ∙ sym (ap (is_good r whole past) e) }
+
         agree_at : (ps : List Piece) → pieces k (d ∷ ds) ≡ ps → Agree past ps
         agree_at ps e = let P : List Piece → Type 0 = λ l. (y : Addr) → IsAmong y (good_front r whole past l) ⊎ (whole y ≡ false) → (other y ≡ whole y) × (to y ≡ at y) in subst P e agree
+
         by_more : (m : Bool) → (d.kind == 3) ≡ m
             → ((p : Past) → ((y : Addr) → IsAmong y (good_front r whole p (pieces k ds)) ⊎ (whole y ≡ false) → (other y ≡ whole y) × (to y ≡ at y)) → Alike p (pieces k ds) (pieces j ds))
             → Alike past (pieces k (d ∷ ds)) (pieces j (d ∷ ds))
@@ -116,7 +123,7 @@ module _ (r : Rules) (whole other : Addr → Bool) where
         by_more false e rest =
             moved (Blocks d ∷ pieces k ds) (Blocks d ∷ pieces j ds) (pieces_over k d ds e) (pieces_over j d ds e)
             (run_alike past d (pieces k ds) (pieces j ds)
-              (λ p. rest (with_run past d) (λ y i. agree_at (Blocks d ∷ pieces k ds) (pieces_over k d ds e) y (elim i [ inl a ↦ inl (behind_run past d y (pieces k ds) p a) | inr w ↦ inr w ]))))
+            (λ p. rest (with_run past d) (λ y i. agree_at (Blocks d ∷ pieces k ds) (pieces_over k d ds e) y (elim i [ inl a ↦ inl (behind_run past d y (pieces k ds) p a) | inr w ↦ inr w ]))))
 
     continues : (n : ℕ) → Continues (further at n) (further to n)
     continues zero past x p agree =
@@ -127,6 +134,7 @@ module _ (r : Rules) (whole other : Addr → Bool) where
       where
         none : (q : Past) → good_front r other q [] ≡ good_front r whole q []
         none q = unfold good_front in refl
+
         none_good : (q : Past) → is_good r other q [] ≡ is_good r whole q []
         none_good q = unfold is_good in refl
     continues (suc n) past x p agree =
@@ -135,10 +143,11 @@ module _ (r : Rules) (whole other : Addr → Bool) where
         let e = further_suc at n x in
         let f : further to (suc n) x ≡ pieces (further to n) (at x) = further_suc to n x ∙ ap (pieces (further to n)) here in
         let a : Alike (with_extent past x) ps (pieces (further to n) (at x)) =
-            pieces_alike (further at n) (further to n) (continues n) (at x) (with_extent past x)
-            (λ y i. agree y (elim i [
-                inl z ↦ inl (behind_extent past x y (further at (suc n) x) p (let P : List Piece → Type 0 = λ l. IsAmong y (good_front r whole (with_extent past x) l) in subst P (sym e) z))
-              | inr w ↦ inr w ])) in
+        pieces_alike (further at n) (further to n) (continues n) (at x) (with_extent past x)
+        (λ y i. agree y (elim i [
+          | inl z ↦ inl (behind_extent past x y (further at (suc n) x) p (let P : List Piece → Type 0 = λ l. IsAmong y (good_front r whole (with_extent past x) l) in subst P (sym e) z))
+          | inr w ↦ inr w
+        ])) in
         record {
           front = ap (good_front r other (with_extent past x)) f ∙ a.front ∙ sym (ap (good_front r whole (with_extent past x)) e);
           good = ap (is_good r other (with_extent past x)) f ∙ a.good ∙ sym (ap (is_good r whole (with_extent past x)) e);

@@ -1,7 +1,7 @@
 -- Bytes of a block written over themselves, and the first descriptors of a body written where they stand.
-use Rattle.std.proofs.Common.{◌≡◌, ℕ, zero, suc, Bool, true, false, cond, ◌+◌, ◌-◌, ◌*◌, ◌/◌, ◌<◌, ◌≤◌, ◌==◌, List, [], ◌∷◌, ◌++◌, append_assoc, length, take, drop, length-append, arith, sym, ◌∙◌, ap, refl}
+use Rattle.std.proofs.Common.{◌≡◌, ℕ, zero, suc, false, cond, ◌+◌, ◌-◌, ◌*◌, ◌/◌, ◌≤◌, ◌==◌, List, [], ◌∷◌, ◌++◌, append_assoc, length, take, drop, length-append, arith, sym, ◌∙◌, ap, refl}
 use Rattle.std.proofs.lemmas.Bool.Decides.{nat_tests}
-use Rattle.std.proofs.lemmas.List.{append-nil, drop-drop, length-take-le, length-drop, take-append-drop}
+use Rattle.std.proofs.lemmas.List.{drop-drop, length-take-le, length-drop, take-append-drop}
 use Rattle.byteorder.specs.Numbers.{length-bytes_low_first}
 use Rattle.udf_model.specs.Bytes.{number_at, with_number, written_at}
 use Rattle.udf_model.proofs.Written.{number_length, number_rest, same_number}
@@ -57,7 +57,7 @@ front_number n p v t m bytes low high room =
     ∙ ap (λ xs. take t (take p bytes ++ (little_bytes n v ++ xs))) (drop_take (p + n) m bytes)
     ∙ ap (take t) (sym (append_assoc (take p bytes) (little_bytes n v) (take (m - (p + n)) (drop (p + n) bytes))))
     ∙ take_front t (m - (p + n)) (take p bytes ++ little_bytes n v) (drop (p + n) bytes)
-      (omega (arith, length-append (take p bytes) (little_bytes n v), length-take-le p bytes (omega arith), length-bytes_low_first 0 n v))
+    (omega (arith, length-append (take p bytes) (little_bytes n v), length-take-le p bytes (omega arith), length-bytes_low_first 0 n v))
     ∙ ap (take t) (append_assoc (take p bytes) (little_bytes n v) (drop (p + n) bytes))
 
 take_plus : (b p : ℕ) (xs : List ℕ) → take (b + p) xs ≡ take b xs ++ take p (drop b xs)

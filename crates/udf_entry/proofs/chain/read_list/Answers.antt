@@ -13,7 +13,7 @@ list-init g c =
     let e = c.in_ok-reading.ensures.extents ∙ c.requires.fresh in
     record {
       left = λ tells. begins (rules_seen c.args.start.rules place) (volume_of c.args.start.rules.size (bytes_of Image (g.B.Bench.held c.args.bench.now)) place) c.args.kind c.args.body.now (past_of c.args.start)
-        (past_of c.in_ok-reading.reading) c.in_ok-reading.next e c.in_ok-reading.ensures.outcome;
+          (past_of c.in_ok-reading.reading) c.in_ok-reading.next e c.in_ok-reading.ensures.outcome;
       spread = spread_empty place ((g.B.Bench.files c.args.bench.now).image.size / c.args.start.rules.size) c.in_ok-reading.reading.extents.items e;
       rules = c.in_ok-reading.ensures.rules;
       room = c.requires.room;
@@ -50,9 +50,12 @@ list-preserved g c =
           c.list.next c.in_ok-read.end (c.list.invariant.left tells) c.in-Onward.is (ap (λ z. rules_seen z place) c.list.invariant.rules)
           (ap (λ z. volume z.size (g.B.Bench.held c.list.bench)) c.list.invariant.rules ∙ ap (volume c.args.start.rules.size) c.list.invariant.held)
           (c.in_ok-read.ensures.outcome tells)
-          (λ e. omega (arith, ap (λ n. n / c.args.start.rules.size) sizes,
+          (λ e. omega (
+            arith,
+            ap (λ n. n / c.args.start.rules.size) sizes,
             grown_few place ((g.B.Bench.files c.args.bench.now).image.size / c.args.start.rules.size) (rules_seen c.list.reading.rules place) (past_of c.list.reading) c.in-Onward.x
-            c.in_ok-read.read.extents.items c.in_ok-read.end spread e));
+                c.in_ok-read.read.extents.items c.in_ok-read.end spread e,
+          ));
       spread = spread;
       rules = c.in_ok-read.ensures.rules ∙ c.list.invariant.rules;
       room = omega (arith, c.list.invariant.room);

@@ -1,4 +1,4 @@
-use Rattle.std.proofs.Common.{◌≡◌, ◌+◌, ◌-◌, ◌*◌, ◌/◌, ◌≤◌, length}
+use Rattle.std.proofs.Common.{◌≡◌, ◌+◌, ◌-◌, ◌*◌, ◌/◌, length}
 use Rattle.udf_outside.specs.Stops.{bytes_of}
 use Rattle.udf_outside.specs.declared.bench.Role.TheVariants.{Image}
 use Rattle.udf_entry.proofs.Few.{Spread}

@@ -1,5 +1,4 @@
-use Rattle.std.proofs.Common.{◌==◌, ◌+◌, arith, sym, ◌∙◌, ap}
-use Rattle.std.proofs.lemmas.Bool.Decides.{nat_tests}
+use Rattle.std.proofs.Common.{◌+◌, arith}
 use Rattle.udf_outside.specs.Stops.{bytes_of}
 use Rattle.udf_outside.specs.declared.bench.Role.TheVariants.{Image}
 use Rattle.udf_file_model.specs.Listing.{volume_of}

@@ -1,4 +1,4 @@
-use Rattle.std.proofs.Common.{arith, sym, ◌∙◌, ap, length}
+use Rattle.std.proofs.Common.{arith, ◌∙◌, ap, length}
 use Rattle.udf_model.specs.Tag.{location}
 use Rattle.udf_outside.specs.Stops.{bytes_of}
 use Rattle.udf_outside.specs.declared.bench.Role.TheVariants.{Image}

@@ -1,4 +1,4 @@
-use Rattle.std.proofs.Common.{ℕ, ◌≡◌, ◌+◌, ◌-◌, ◌≤◌, ◌++◌, take, List, arith, sym, ◌∙◌, ap, refl, length, get_or}
+use Rattle.std.proofs.Common.{◌-◌, ◌++◌, take, arith, ◌∙◌, ap, refl, get_or}
 use Rattle.udf_outside.specs.Stops.{bytes_of, Held}
 use Rattle.udf_outside.specs.declared.bench.Role.TheVariants.{Image}
 use Rattle.udf_file_model.specs.Listing.{Volume, volume_of}
@@ -24,7 +24,7 @@ loop-run-preserved g c = record {
       one_run (volume (g.B.Bench.held c.args.bench.now)) c.args.end c.loop-run.run-index (c.args.end - c.len.result) c.args.runs.now no_run_here c.loop-run.content.items c.append_run.new.content.items
       (omega arith) (c.loop-run.invariant.read tells) (omega (arith, c.len.ensures))
       (c.in_ok-append_run.ensures.bytes tells
-        ∙ ap (λ h. c.loop-run.content.items ++ take (c.args.end - c.len.result) (run_bytes (volume h) (run_seen (get_or c.args.runs.now c.loop-run.run-index no_run_here)))) c.loop-run.invariant.held);
+      ∙ ap (λ h. c.loop-run.content.items ++ take (c.args.end - c.len.result) (run_bytes (volume h) (run_seen (get_or c.args.runs.now c.loop-run.run-index no_run_here)))) c.loop-run.invariant.held);
   short = omega (arith, c.in_ok-append_run.ensures.short, c.loop-run.invariant.short);
   room = omega (arith, c.loop-run.invariant.room);
   files = c.in_ok-append_run.ensures.reads.files ∙ c.loop-run.invariant.files;

@@ -1,8 +1,6 @@
-use Rattle.std.proofs.Common.{◌∙◌, sym, ap, arith, refl, length, cond, ◌==◌}
+use Rattle.std.proofs.Common.{◌∙◌, sym, ap, arith, refl, length}
 use Rattle.udf_outside.specs.Stops.{bytes_of}
 use Rattle.udf_outside.specs.declared.bench.Role.TheVariants.{Image}
-use Rattle.udf_file_model.specs.Pieces.{bytes_in}
-use Rattle.udf_entry.specs.ReadingView.{past_of}
 use Rattle.udf_entry.proofs.Told.{size_bounds, none_is, list_is}
 use Rattle.udf_entry.proofs.list.list_of.Goals as goal
 

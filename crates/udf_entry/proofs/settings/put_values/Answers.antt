@@ -1,4 +1,4 @@
-use Rattle.std.proofs.Common.{arith, sym, ◌∙◌, ap, refl, length}
+use Rattle.std.proofs.Common.{arith, sym, refl, length}
 use Rattle.udf_file_model.specs.Entry.{body_of}
 use Rattle.udf_entry.specs.ValuesView.{wanted_of}
 use Rattle.udf_entry.proofs.Told.{size_bounds}

@@ -40,14 +40,14 @@ returns-then-new-blocks-clause-whole g c =
     let r = rules_seen c.args.self.rules (g.P.Parts.place c.args.parts.now) in
     let new = new_is r (past_of c.args.self) (run_seen c.args.run) c.blocks_of-blocks.result c.new_blocks-new.result c.blocks_of-blocks.ensures c.new_blocks-new.ensures in
     sym (all_pass r (past_of c.args.self) (run_seen c.args.run) (sym c.may_come.ensures ∙ c.if-not-may_come.false) (apart_test c.args.run.kind 2 c.if-run-eq-HOLE.false)
-      (sym new ∙ c.if-new-blocks.true ∙ c.blocks_of-blocks.ensures))
+    (sym new ∙ c.if-new-blocks.true ∙ c.blocks_of-blocks.ensures))
 
 pub returns-then-new-eq0-clause-whole : goal.returns-then-new-eq0-clause-whole
 returns-then-new-eq0-clause-whole g c =
     let r = rules_seen c.args.self.rules (g.P.Parts.place c.args.parts.now) in
     let new = new_is r (past_of c.args.self) (run_seen c.args.run) c.blocks_of-blocks.result c.new_blocks-new.result c.blocks_of-blocks.ensures c.new_blocks-new.ensures in
     sym (some_fail r (past_of c.args.self) (run_seen c.args.run) (apart_test c.args.run.kind 2 c.if-run-eq-HOLE.false)
-      (λ e. c.if-new-blocks.false (new ∙ e ∙ sym c.blocks_of-blocks.ensures)))
+    (λ e. c.if-new-blocks.false (new ∙ e ∙ sym c.blocks_of-blocks.ensures)))
 
 pub returns-then-new-eq0-clause-front : goal.returns-then-new-eq0-clause-front
 returns-then-new-eq0-clause-front g c e =
@@ -65,8 +65,11 @@ pub with_run-requires-2-clause-small : goal.with_run-requires-2-clause-small
 with_run-requires-2-clause-small g c =
     let r = rules_seen c.args.self.rules (g.P.Parts.place c.args.parts.now) in
     let fewer = fewer_blocks r (past_of c.args.self) (run_seen c.args.run) c.blocks_of-blocks.result c.new_blocks-new.result c.blocks_of-blocks.ensures c.new_blocks-new.ensures c.if-new-blocks.false in
-    omega (arith, front_less c.args.self.rules.size c.new_blocks-new.result c.args.run.length c.args.self.some fewer,
-      may_come_small r (past_of c.args.self) (run_seen c.args.run) (sym c.may_come.ensures ∙ c.if-not-may_come.false))
+    omega (
+      arith,
+      front_less c.args.self.rules.size c.new_blocks-new.result c.args.run.length c.args.self.some fewer,
+      may_come_small r (past_of c.args.self) (run_seen c.args.run) (sym c.may_come.ensures ∙ c.if-not-may_come.false),
+    )
 
 pub with_run-requires-2-clause-free : goal.with_run-requires-2-clause-free
 with_run-requires-2-clause-free g c k h =
@@ -79,7 +82,7 @@ returns-clause-whole g c =
     let r = rules_seen c.args.self.rules (g.P.Parts.place c.args.parts.now) in
     let new = new_is r (past_of c.args.self) (run_seen c.args.run) c.blocks_of-blocks.result c.new_blocks-new.result c.blocks_of-blocks.ensures c.new_blocks-new.ensures in
     sym (some_fail r (past_of c.args.self) (run_seen c.args.run) (apart_test c.args.run.kind 2 c.if-run-eq-HOLE.false)
-      (λ e. c.if-new-blocks.false (new ∙ e ∙ sym c.blocks_of-blocks.ensures)))
+    (λ e. c.if-new-blocks.false (new ∙ e ∙ sym c.blocks_of-blocks.ensures)))
 
 pub returns-clause-front : goal.returns-clause-front
 returns-clause-front g c e =
