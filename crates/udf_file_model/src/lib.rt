@@ -1,16 +1,79 @@
-//! The definitions of files: file identifier descriptors (FIDs), the scan of a directory's content, packed contents and when
+//! The definitions of files: where addresses stand; entries, their lists of blocks, contents and what a cut leaves of them, over
+//! a disk and those places; file identifier descriptors (FIDs), the scan of a directory's content, packed contents and when
 //! names are the same, in the terms of ECMA-167 part 4 and OSTA UDF 2.1. The code of this crate is laws alone: functions with
 //! an empty body whose contract says what the definitions mean. It stands on the definitions of tags, fields and texts.
 #![tactic(auto)]
 
-ghost use Rattle.std.specs.Prelude.{◌≡◌, ℕ, ◌*◌, ◌≤◌, ◌<◌, ◌%◌, ◌++◌, ◌∷◌, ◌↔◌, ◌⊎◌, List, Some, length, take, drop, true, false, All, AllPairs, Contains, slice_index};
+ghost use Rattle.std.specs.Prelude.{◌≡◌, ◌≢◌, ℕ, ◌*◌, ◌^◌, ◌≤◌, ◌<◌, ◌%◌, ◌++◌, ◌∷◌, ◌↔◌, ◌⊎◌, List, [], Some, length, take, drop, true, false, All, AllPairs, Contains, slice_index};
 ghost use Rattle.std.specs.declared.cmp.Ordering.TheVariants.{Equal};
 ghost use Rattle.udf_file_model.specs.Fid.{Begins, IsFid, fid_at, fid_bytes, is_live, is_parent, target};
 ghost use Rattle.udf_file_model.specs.Anew.{CanName, named_anew};
 ghost use Rattle.udf_field.specs.declared.address.Addr.{Addr};
 ghost use Rattle.udf_file_model.specs.Scan.{IsScan, Placed, fids, fids_of, offsets};
 ghost use Rattle.udf_file_model.specs.Pack.{IsPacking, IsWholeContent, Packing, fids_at, packed, placed_from};
+ghost use Rattle.udf_model.specs.Bytes.{IsBytes};
+ghost use Rattle.udf_file_model.specs.Entry.{Entry, entry_in, entry_of, extent_body};
+ghost use Rattle.udf_file_model.specs.Pieces.{IsAmong, size_of};
+ghost use Rattle.udf_file_model.specs.Front.{nothing_yet};
+ghost use Rattle.udf_file_model.specs.Listing.{Volume, addresses, extent_at, is_extent, is_good_for, is_placed, list_for, rules_for, with_disk};
+ghost use Rattle.udf_file_model.specs.Cut.{HasRoom, cut_pieces};
+ghost use Rattle.udf_file_model.specs.CutBody.{HasExtent, extent_with};
+ghost use Rattle.udf_file_model.specs.CutEntry.{AreBytes, IsCut, cut_entry};
+ghost use Rattle.udf_file_model.specs.Wanted.{Fits, HasEntry, Wanted, entry_identified, entry_linked, entry_streamless, entry_with, mended, own, with_cut, with_id, with_links, with_no_stream};
+ghost use Rattle.udf_file_model.specs.Place.{IsPlacedFront, Place, placed_front};
 ghost use Rattle.udf_file_model.specs.Name.{Canonical, IsSameName, canonical, canonical_cmp};
+
+/// The entry's own block and the addresses of its list are pairwise different, and those of the list are placed. A good list
+/// rests on its entry's block and its allocation extents alone; one that fails also on what is no whole extent. An embedded
+/// entry has no list, and nothing of that fails.
+pub fn list_law()
+    ensures apart { (v : Volume) (a : Addr) (e : Entry) → 0 < v.size → AllPairs (λ x y. x ≢ y) (a ∷ addresses v.size (list_for v a e)) }
+    ensures placed { (v : Volume) (a : Addr) (e : Entry) → 0 < v.size
+        → All (λ x. is_placed v x ≡ true) (addresses v.size (list_for v a e)) }
+    ensures local { (v : Volume) (disk : ℕ → List ℕ) (a : Addr) (e : Entry) → is_good_for v a e ≡ true
+        → ((x : Addr) → IsAmong x (list_for v a e) → extent_at v x ≡ extent_at (with_disk v disk) x)
+        → (list_for (with_disk v disk) a e ≡ list_for v a e) × (is_good_for (with_disk v disk) a e ≡ true) }
+    ensures failing { (v : Volume) (disk : ℕ → List ℕ) (a : Addr) (e : Entry)
+        → ((x : Addr) → IsAmong x (list_for v a e) ⊎ (is_extent v x ≡ false) → extent_at v x ≡ extent_at (with_disk v disk) x)
+        → (list_for (with_disk v disk) a e ≡ list_for v a e) × (is_good_for (with_disk v disk) a e ≡ is_good_for v a e) }
+    ensures embedded { (v : Volume) (a : Addr) (e : Entry) → e.kind ≡ 3 → (list_for v a e ≡ []) × (is_good_for v a e ≡ true) }
+{}
+
+/// The list of an entry that is cut to some bytes of it, and whose allocation extents are cut with it, is the list cut to
+/// those bytes, and nothing of it fails.
+pub fn cut_law()
+    ensures { (v : Volume) (disk : ℕ → List ℕ) (a : Addr) (e : Entry) (b : ℕ) → 0 < v.size → AreBytes v.disk → IsBytes e.body
+        → e.kind ≢ 3 → b ≤ size_of (list_for v a e) → HasRoom (rules_for v a e) nothing_yet b (list_for v a e) → IsCut v disk a e b
+        → (list_for (with_disk v disk) a (cut_entry a b e) ≡ cut_pieces b (list_for v a e))
+        × (is_good_for (with_disk v disk) a (cut_entry a b e) ≡ true) }
+{}
+
+/// An entry's block with wanted values is readable and states them, and all else as it was.
+pub fn wanted_law()
+    ensures wanted { (at header : ℕ) (block : List ℕ) (w : Wanted) → HasEntry at header block → Fits header w block
+        → entry_of at (entry_with at header w block) ≡ Some (mended w (entry_in header block)) }
+    ensures links { (at header n : ℕ) (block : List ℕ) → HasEntry at header block → n < 2 ^ 16
+        → entry_of at (entry_with at header (with_links n (own header block)) block) ≡ Some (entry_linked n (entry_in header block)) }
+    ensures id { (at header n : ℕ) (block : List ℕ) → HasEntry at header block → n < 2 ^ 64
+        → entry_of at (entry_with at header (with_id n (own header block)) block) ≡ Some (entry_identified n (entry_in header block)) }
+    ensures stream { (at header : ℕ) (block : List ℕ) → HasEntry at header block
+        → entry_of at (entry_with at header (with_no_stream (own header block)) block)
+        ≡ Some (entry_streamless (entry_in header block)) }
+    ensures cut { (at header n : ℕ) (block body : List ℕ) → HasEntry at header block → n < 2 ^ 64 → IsBytes body
+        → length body ≤ length (entry_in header block).body
+        → entry_of at (entry_with at header (with_cut n body (own header block)) block)
+        ≡ Some (record (entry_in header block) { information = n; body = body }) }
+    ensures same_length { (at header : ℕ) (block : List ℕ) (w : Wanted) → HasEntry at header block → Fits header w block
+        → length (entry_with at header w block) ≡ length block }
+    ensures bytes { (at header : ℕ) (block : List ℕ) (w : Wanted) → HasEntry at header block → Fits header w block
+        → IsBytes (entry_with at header w block) }
+{}
+
+/// An allocation extent with fewer bytes of descriptors is whole, and has them.
+pub fn extent_law()
+    ensures { (at : ℕ) (block old body : List ℕ) → HasExtent at block old → IsBytes body → length body ≤ length old
+        → extent_body at (extent_with at body block) ≡ Some body }
+{}
 
 /// The FID that begins some bytes is found there, and rests on its own bytes alone. Its length is a multiple of four and
 /// at least 40, and it is never both live and a parent.
@@ -78,4 +141,9 @@ pub fn name_law()
 /// The order of canonical names finds equal only what is equal.
 pub fn order_law()
     ensures { (a b : Canonical) → (canonical_cmp a b ≡ Equal) ↔ (a ≡ b) }
+{}
+
+/// The front of some blocks that is placed is one number: so many are placed, and they are all or the next is not.
+pub fn place_law()
+    ensures { (place : Place) (block blocks n : ℕ) → IsPlacedFront place block blocks n ↔ (placed_front place block blocks ≡ n) }
 {}

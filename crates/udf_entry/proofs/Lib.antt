@@ -1,0 +1,16 @@
+pub mod Steps
+pub mod Passing
+pub mod Walking
+pub mod Few
+pub mod Spans
+pub mod Telling
+pub mod Bodies
+pub mod Extents
+pub mod Lists
+pub mod Told
+pub mod Appending
+pub mod RunBytes
+pub mod Bodied
+pub mod InBlock
+pub mod CutBlocks
+pub mod TestParts

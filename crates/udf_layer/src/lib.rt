@@ -1,0 +1,16 @@
+//! Partition layers: which sector of the image stands behind a block of a partition, and behind an address. Towards the layers
+//! above: `Parts`, whose answers are functions of the partitions' places alone, with laws that tell addresses of different
+//! sectors apart; nothing above knows how a partition is built. It stands on addresses and on the definitions of places.
+#![tactic(auto)]
+
+mod area;
+mod layer;
+mod one;
+mod parts;
+mod physical;
+
+pub use area::Area;
+pub use layer::Layer;
+pub use one::One;
+pub use parts::Parts;
+pub use physical::Physical;
