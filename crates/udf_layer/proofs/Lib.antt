@@ -1,1 +1,4 @@
 pub mod PlacedFronts
+pub mod Near
+pub mod Mapping
+pub mod Kept

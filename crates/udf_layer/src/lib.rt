@@ -4,13 +4,19 @@
 #![tactic(auto)]
 
 mod area;
+mod free;
 mod layer;
 mod one;
 mod parts;
 mod physical;
+mod sectors;
+mod sparable;
+mod table;
 
 pub use area::Area;
 pub use layer::Layer;
 pub use one::One;
 pub use parts::Parts;
 pub use physical::Physical;
+pub use sparable::Sparable;
+pub use table::SparingTable;
