@@ -2,3 +2,5 @@ pub mod PlacedFronts
 pub mod Near
 pub mod Mapping
 pub mod Kept
+pub mod Spare
+pub mod SparedFronts

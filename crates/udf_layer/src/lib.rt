@@ -18,5 +18,5 @@ pub use layer::Layer;
 pub use one::One;
 pub use parts::Parts;
 pub use physical::Physical;
-pub use sparable::Sparable;
+pub use sparable::{Sparable, spare_law};
 pub use table::SparingTable;

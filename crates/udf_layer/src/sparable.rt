@@ -1,5 +1,8 @@
 // Sparable partitions (UDF 2.50 2.2.9): packets of which some stand elsewhere.
-ghost use Rattle.std.specs.Prelude.{◌≡◌, ◌<◌};
+ghost use Rattle.std.specs.Prelude.{◌≡◌, ◌+◌, ◌<◌, ◌≤◌, ℕ, IsSome, None, List, true, Contains};
+ghost use Rattle.udf_file_model.specs.Place.{physical_place, sparable_place};
+ghost use Rattle.udf_layer.specs.declared.area.Area.{Area};
+ghost use Rattle.udf_layer.specs.Lawful.{is_lawful};
 ghost use Rattle.udf_layer.specs.Packets.{AreSpare};
 
 use crate::{Layer, SparingTable};
@@ -24,6 +27,26 @@ impl<L: Layer> Sparable<L> {
         // A packet has a block, which keeps the places of two packets apart.
         let _blocks = table.packet();
         Sparable { below, table }
+    }
+
+    // How many of so many blocks from one on the layer below places together, or one where it places none and the block's
+    // packet is mapped, or none.
+    fn step(&self, block: u32, many: u32) -> u32
+        requires some { 0 < many }
+        requires inside { block < L.blocks self.now.below }
+        ensures few { result ≤ many }
+        ensures placed { (k : ℕ) → k < result → IsSome (sparable_place self.now.table.packet self.now.table.pairs (L.blocks self.now.below) (L.place self.now.below) (block + k)) }
+        ensures gap { result ≡ 0 → sparable_place self.now.table.packet self.now.table.pairs (L.blocks self.now.below) (L.place self.now.below) block ≡ None }
+    {
+        let run = self.below.placed(block, many);
+        if run > 0 {
+            return run;
+        }
+        if self.table.spared(block).is_some() {
+            1
+        } else {
+            0
+        }
     }
 }
 
@@ -57,6 +80,20 @@ impl<L: Layer> Layer for Sparable<L> {
         None
     }
 
+    // Over a physical partition one step reaches the end.
+    fn placed(&self, block: u32, many: u32) -> u32 {
+        let limit = self.below.blocks();
+        let mut front = 0;
+        while front < many && (block as u64 + front as u64) < limit as u64 {
+            let step = self.step(block + front, many - front);
+            if step == 0 {
+                return front;
+            }
+            front += step;
+        }
+        front
+    }
+
     ghost within = { λ layer. sparable_within layer.table.packet layer.table.pairs (L.blocks layer.below) (L.place layer.below) };
 
     ghost apart = { λ layer. sparable_apart layer.table.packet layer.table.pairs (L.blocks layer.below) (L.place layer.below)
@@ -66,3 +103,9 @@ impl<L: Layer> Layer for Sparable<L> {
 
     ghost twins_apart = { λ layer m n s p q. Prim.cc };
 }
+
+/// A lawful table with the base partition among the areas is spare over that partition: `Sparable::new` may take both.
+pub fn spare_law()
+    ensures { (packet image : ℕ) (pairs : List (ℕ × ℕ)) (areas : List Area) (area : Area) → image < 4294967296 → Contains areas area
+        → is_lawful packet pairs areas image ≡ true → AreSpare packet pairs (physical_place area.start area.blocks) }
+{}
