@@ -5,6 +5,9 @@ pub mod Lone
 pub mod Packets
 pub mod Table
 pub mod Tables
+pub mod Fronts
+pub mod Prevailing
+pub mod Read
 pub mod Spared
 pub mod Indexes
 pub mod Lawful

@@ -1,12 +1,10 @@
 -- Sparing tables in the bytes of an image (UDF 2.50 2.2.12): a tag with identifier 0, the entity `*UDF Sparing Table` at 16, the
 -- number of entries at 48, the sequence number at 52, and from 56 on the entries, of an original and a mapped location.
-use Rattle.std.specs.Prelude.{◌≡◌, ℕ, Bool, true, false, ◌+◌, ◌*◌, ◌%◌, ◌-◌, ◌/◌, ◌==◌, ◌&&◌, not, nat_lt, nat_le, if◌then◌else◌, codes, Option, Some, None, List, [], ◌∷◌, map, filter, take, drop, find}
-use Rattle.std.specs.List.{list_all, range_with_len}
-use Rattle.std.specs.Option.{option_map}
+use Rattle.std.specs.Prelude.{ℕ, Bool, ◌+◌, ◌*◌, ◌%◌, ◌-◌, ◌/◌, ◌==◌, ◌&&◌, not, nat_lt, nat_le, if◌then◌else◌, codes, Option, Some, None, List, [], ◌∷◌, map, filter, take, drop}
+use Rattle.std.specs.List.{range_with_len}
 use Rattle.udf_model.specs.Bytes.{number_at}
 use Rattle.udf_model.specs.Tag.{id_at, is_id}
 use Rattle.udf_field.specs.FieldView.{entity_is}
-use Rattle.udf_layer.specs.Table.{Table}
 
 -- the bytes of the blocks that so many bytes take, which make the area of a table's tag
 unfoldable pub area_bytes : ℕ → ℕ → ℕ
@@ -50,20 +48,3 @@ is_original packet blocks original = (original % packet == 0) && nat_lt original
 -- the entries that are used
 unfoldable pub used_pairs : ℕ → ℕ → List (ℕ × ℕ) → List (ℕ × ℕ)
 used_pairs packet blocks list = filter (λ entry. is_original packet blocks entry.0) (firsts list)
-
--- a number is at most another, where there is one
-abbrev pub at_most : Option ℕ → ℕ → Bool
-at_most None most = true
-at_most (Some n) most = nat_le n most
-
--- among so many tables with these sequence numbers, where they are whole, this one is whole and none is higher
-unfoldable pub is_highest : (ℕ → Option ℕ) → ℕ → ℕ → Bool
-is_highest numbers count i = by (numbers i)
-  where
-    by : Option ℕ → Bool
-    by None = false
-    by (Some n) = list_all (λ k. at_most (numbers k) n) (range_with_len 0 count)
-
--- the index of the table that prevails: the first that is highest
-unfoldable pub prevailing_index : (ℕ → Option ℕ) → ℕ → Option ℕ
-prevailing_index numbers count = find (is_highest numbers count) (range_with_len 0 count)

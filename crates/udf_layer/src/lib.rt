@@ -6,15 +6,20 @@
 mod area;
 mod free;
 mod layer;
+mod maps;
+mod missing;
 mod one;
 mod parts;
 mod physical;
 mod sectors;
 mod sparable;
 mod table;
+mod whole_table;
 
 pub use area::Area;
 pub use layer::Layer;
+pub use maps::{MetaMap, SparingMap};
+pub use missing::{LayerStop, Missing, ProfileItem};
 pub use one::One;
 pub use parts::Parts;
 pub use physical::Physical;
