@@ -4,3 +4,4 @@ pub mod Mapping
 pub mod Kept
 pub mod Spare
 pub mod SparedFronts
+pub mod Used

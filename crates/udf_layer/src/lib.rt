@@ -4,6 +4,7 @@
 #![tactic(auto)]
 
 mod area;
+mod entries;
 mod free;
 mod layer;
 mod maps;
@@ -11,6 +12,7 @@ mod missing;
 mod one;
 mod parts;
 mod physical;
+mod prevailing;
 mod sectors;
 mod sparable;
 mod table;
