@@ -5,3 +5,4 @@ pub mod Kept
 pub mod Spare
 pub mod SparedFronts
 pub mod Used
+pub mod AreaFronts

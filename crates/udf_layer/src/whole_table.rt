@@ -44,7 +44,8 @@ fn entries_end(table: &[u8]) -> u32
 #[tactic(auto, unfolding(crate::specs::Fronts::front_length))]
 pub(crate) fn front_bytes(head: &[u8]) -> u32
     requires { 50 ≤ length head.now }
-    ensures { result ≡ front_length head.now }
+    ensures value { result ≡ front_length head.now }
+    ensures some { 56 ≤ result }
 {
     let covered = TAG_BYTES + Fields::over(head).u16_at(CRC_LENGTH_AT) as u32;
     covered.max(entries_end(head))
