@@ -112,7 +112,7 @@ module _ (most : ℕ) (area : List ℕ) (head : 56 ≤ most) (covers : 16 + crc_
   unfolding entity_is entity_name
   same_name name = ap (λ l. bytes_eq l (padded 23 name)) (same_part most 23 17 area (omega arith))
 
-  same_count : entry_count (take most area) ≡ entry_count area
+  pub same_count : entry_count (take most area) ≡ entry_count area
   same_count = front_number most 2 48 area (omega arith)
 
   pub same_sequence : sequence_number (take most area) ≡ sequence_number area

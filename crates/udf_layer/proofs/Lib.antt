@@ -6,3 +6,4 @@ pub mod Spare
 pub mod SparedFronts
 pub mod Used
 pub mod AreaFronts
+pub mod WholeTables

@@ -1,11 +1,11 @@
 -- The sparing table that prevails, as it is used (UDF 2.50 2.2.12): of the whole ones the one with the highest sequence number, the
 -- earliest listed of equals.
-use Rattle.std.specs.Prelude.{ℕ, Bool, true, false, nat_le, Option, Some, None, List, find, slice_index}
+use Rattle.std.specs.Prelude.{ℕ, ◌+◌, ◌*◌, ◌<◌, ◌≤◌, Bool, true, false, nat_le, Option, Some, None, List, find, slice_index}
 use Rattle.std.specs.List.{list_all, range_with_len}
 use Rattle.std.specs.Option.{option_map}
 use Rattle.udf_layer.specs.declared.maps.SparingMap.{SparingMap}
 use Rattle.udf_layer.specs.Table.{Table}
-use Rattle.udf_layer.specs.Tables.{area_at, entries, table_number, used_pairs}
+use Rattle.udf_layer.specs.Tables.{area_at, area_bytes, entries, table_number, used_pairs}
 
 -- a number is at most another, where there is one
 abbrev pub at_most : Option ℕ → ℕ → Bool
@@ -40,3 +40,11 @@ used_of size image m blocks i = record { packet = m.packet; pairs = used_pairs m
 -- the table that prevails of those that a map lists
 unfoldable pub table_stated : ℕ → List ℕ → SparingMap → ℕ → Option Table
 table_stated size image m blocks = option_map (used_of size image m blocks) (prevailing_index (listed_number size image m) m.count)
+
+-- A map that is read: packets of some blocks, at most four tables, each of at least the bytes before its entries and in an image
+-- of so many bytes.
+pub record IsTableMap (size image_size : ℕ) (m : SparingMap) : Type 0 where
+  pub packet : 0 < m.packet
+  pub few : m.count ≤ 4
+  pub some : 56 ≤ m.bytes
+  pub within : (i : ℕ) → i < m.count → slice_index m.at i * size + area_bytes size m.bytes ≤ image_size

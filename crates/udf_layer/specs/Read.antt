@@ -1,5 +1,5 @@
 -- What the code reads of sparing tables, as the definitions have it.
-use Rattle.std.specs.Prelude.{◌≡◌, ℕ, ◌+◌, ◌*◌, ◌<◌, ◌≤◌, Option, Some, None, List}
+use Rattle.std.specs.Prelude.{◌≡◌, ℕ, ◌<◌, ◌≤◌, Option, Some, None, List}
 use Rattle.udf_layer.specs.declared.whole_table.WholeTable.{WholeTable}
 use Rattle.udf_layer.specs.declared.missing.LayerStop.{LayerStop}
 use Rattle.udf_layer.specs.declared.missing.LayerStop.TheVariants.{Fault, Memory}
@@ -7,12 +7,12 @@ use Rattle.udf_layer.specs.declared.missing.LayerStop.TheVariants as stops
 use Rattle.udf_layer.specs.declared.missing.Missing.TheVariants as missing
 use Rattle.udf_layer.specs.declared.maps.SparingMap.{SparingMap}
 use Rattle.udf_layer.specs.Table.{Table}
-use Rattle.udf_layer.specs.Tables.{entries, table_number, used_pairs}
+use Rattle.udf_layer.specs.Tables.{entries, used_pairs}
 
--- a table that was read of an area at a sector: its number and its entries, where it is whole
-abbrev pub IsReadOf : ℕ → ℕ → List ℕ → Option WholeTable → Type 0
-IsReadOf bytes at area None = table_number bytes at area ≡ None
-IsReadOf bytes at area (Some table) = (table_number bytes at area ≡ Some table.number) × (entries table.bytes.items ≡ entries area)
+-- a table that was read has this number, where one is whole, and these entries
+abbrev pub IsRead : Option ℕ → List (ℕ × ℕ) → Option WholeTable → Type 0
+IsRead number list None = number ≡ None
+IsRead number list (Some table) = (number ≡ Some table.number) × (entries table.bytes.items ≡ list)
 
 -- among the first i tables, with these numbers and entries, the one at this index is the highest, and the earliest of equals
 pub record BestAt (numbers : ℕ → Option ℕ) (lists : ℕ → List (ℕ × ℕ)) (i : ℕ) (table : WholeTable) (best : ℕ) : Type 0 where

@@ -25,5 +25,6 @@ pub use missing::{LayerStop, Missing, ProfileItem};
 pub use one::One;
 pub use parts::Parts;
 pub use physical::Physical;
+pub use prevailing::sparing_table;
 pub use sparable::{Sparable, spare_law};
 pub use table::SparingTable;

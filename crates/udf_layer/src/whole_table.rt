@@ -1,7 +1,7 @@
 // Whole sparing tables (UDF 2.50 2.2.12).
 ghost use Rattle.std.specs.Prelude.{◌≡◌, ◌+◌, ◌*◌, ◌≤◌, ◌&&◌, nat_le, max, length};
 ghost use Rattle.udf_layer.specs.Fronts.{front_length};
-ghost use Rattle.udf_layer.specs.Tables.{entry_count, is_table};
+ghost use Rattle.udf_layer.specs.Tables.{entry_count, is_table, sequence_number};
 
 use udf_field::{Fields, id_at};
 
@@ -17,6 +17,8 @@ const ENTITY_AT: usize = 16;
 
 const COUNT_AT: usize = 48;
 
+const SEQUENCE_AT: usize = 52;
+
 /// The bytes of a tag.
 const TAG_BYTES: u32 = 16;
 
@@ -30,6 +32,23 @@ const ENTRY_BYTES: u32 = 8;
 pub(crate) struct WholeTable {
     pub number: u32,
     pub bytes: Vec<u8>,
+    ghost fits: { 56 + 8 * entry_count bytes.items ≤ length bytes.items },
+}
+
+impl WholeTable {
+    /// The table of a front, which has its entries.
+    pub(crate) fn of(front: Vec<u8>) -> WholeTable
+        requires some { 56 ≤ length front.items }
+        requires fits { 56 + 8 * entry_count front.items ≤ length front.items }
+        ensures number { result.number ≡ sequence_number front.items }
+        ensures bytes { result.bytes ≡ front }
+    {
+        let number = Fields::over(&front).u32_at(SEQUENCE_AT);
+        WholeTable {
+            number,
+            bytes: front,
+        }
+    }
 }
 
 // The end of the entries.
