@@ -1,19 +1,19 @@
 -- All that a sparing table says rests on the front of its area.
-use Rattle.std.proofs.Common.{◌≡◌, ℕ, ◌+◌, ◌-◌, ◌*◌, ◌/◌, ◌%◌, ◌<◌, ◌≤◌, ◌==◌, min, max, Bool, true, false, ◌&&◌, nat_le, cond, length, get_or, take, drop, arith, refl, sym, ap, ◌∙◌, subst, Option, Some, None, List, ◌∷◌, map, inl, inr, zero, suc}
+use Rattle.std.proofs.Common.{◌≡◌, ℕ, ◌+◌, ◌-◌, ◌*◌, ◌%◌, ◌<◌, ◌≤◌, ◌==◌, min, max, Bool, true, false, ◌&&◌, nat_le, cond, length, take, drop, arith, refl, sym, ap, ◌∙◌, Some, None, List, ◌∷◌, map, inl, inr, zero, suc}
 use Rattle.std.specs.List.{range_with_len}
 use Rattle.std.specs.Prelude.{codes, slice_index, sum}
 use Rattle.std.specs.Str.{bytes_eq}
 use Rattle.std.proofs.lemmas.Bool.Decides.{nat_tests}
 use Rattle.udf_model.specs.Crc.{crc_of}
 use Rattle.udf_field.specs.FieldView.{entity_is, entity_name, padded}
-use Rattle.std.proofs.lemmas.List.{take_all, get_or-take, take-take, drop-take, length-take, length-take-le}
+use Rattle.std.proofs.lemmas.List.{take_all, get_or-take, take-take, drop-take, length-take}
 use Rattle.std.proofs.Math.Nat.{mod-eq-sub-div-mul, mod-lt}
 use Rattle.std.proofs.lemmas.Bool.{cases_lt}
 use Rattle.udf_model.specs.Bytes.{number_at}
 use Rattle.udf_model.specs.Tag.{checksum_of, covered, crc_length, id_at, identifier, is_id, is_whole, location}
 use Rattle.udf_model.proofs.Written.{same_number}
 use Rattle.udf_layer.specs.Fronts.{front_length, table_front}
-use Rattle.udf_layer.specs.Tables.{area_at, area_bytes, entries, entry_at, entry_count, is_table, sequence_number, table_number}
+use Rattle.udf_layer.specs.Tables.{area_at, area_bytes, entries, entry_at, entry_count, is_table, sequence_number}
 
 -- the bytes of a table lie in its blocks
 pub area_large : (size bytes : ℕ) → 512 ≤ size → bytes ≤ area_bytes size bytes

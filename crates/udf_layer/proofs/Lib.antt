@@ -7,3 +7,4 @@ pub mod SparedFronts
 pub mod Used
 pub mod AreaFronts
 pub mod WholeTables
+pub mod Prevails

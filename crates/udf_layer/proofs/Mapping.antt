@@ -1,5 +1,5 @@
 -- The packet to which an original maps.
-use Rattle.std.proofs.Common.{◌≡◌, ℕ, Bool, true, false, ◌+◌, ◌%◌, ◌<◌, ◌==◌, ◌&&◌, nat_lt, cond, arith, refl, subst, Option, Some, None, List, [], ◌∷◌}
+use Rattle.std.proofs.Common.{◌≡◌, ℕ, Bool, true, false, ◌+◌, ◌<◌, ◌==◌, ◌&&◌, nat_lt, cond, arith, refl, subst, Option, Some, List, [], ◌∷◌}
 use Rattle.std.specs.List.{list_all, find}
 use Rattle.std.specs.Option.{option_map}
 use Rattle.std.proofs.lemmas.Bool.Decides.{nat_tests}

@@ -1,5 +1,5 @@
 -- A table is whole by its front, and has its number and its entries there.
-use Rattle.std.proofs.Common.{◌≡◌, ℕ, ◌+◌, ◌*◌, ◌<◌, ◌≤◌, ◌==◌, ◌-◌, min, max, Bool, true, false, ◌&&◌, nat_le, cond, length, take, drop, arith, refl, sym, ap, ◌∙◌, subst, Option, Some, None, List}
+use Rattle.std.proofs.Common.{◌≡◌, ℕ, ◌+◌, ◌*◌, ◌≤◌, Bool, true, false, ◌&&◌, nat_le, cond, length, drop, arith, refl, sym, ap, ◌∙◌, Some, None, List}
 use Rattle.std.specs.Prelude.{codes}
 use Rattle.std.proofs.lemmas.List.{length-take, length-drop}
 use Rattle.std.proofs.lemmas.Bool.{and_parts}

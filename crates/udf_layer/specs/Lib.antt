@@ -11,3 +11,4 @@ pub mod Read
 pub mod Spared
 pub mod Indexes
 pub mod Lawful
+pub mod Causes

@@ -1,5 +1,5 @@
 -- Packets of sectors to which a sparing table maps (UDF 2.50 2.2.12), and when they are spare.
-use Rattle.std.specs.Prelude.{◌≡◌, ℕ, Bool, true, ◌+◌, ◌^◌, ◌&&◌, ◌||◌, not, nat_lt, nat_le, Some, List, [], ◌∷◌}
+use Rattle.std.specs.Prelude.{◌≡◌, ℕ, Bool, true, ◌+◌, ◌&&◌, ◌||◌, not, nat_lt, nat_le, Some, List, [], ◌∷◌}
 use Rattle.std.specs.List.{list_all}
 use Rattle.udf_file_model.specs.Place.{Place}
 

@@ -21,7 +21,7 @@ mod whole_table;
 pub use area::Area;
 pub use layer::Layer;
 pub use maps::{MetaMap, SparingMap};
-pub use missing::{LayerStop, Missing, ProfileItem};
+pub use missing::{LayerStop, Missing, ProfileItem, WorkStop};
 pub use one::One;
 pub use parts::Parts;
 pub use physical::Physical;

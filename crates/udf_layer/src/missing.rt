@@ -1,8 +1,9 @@
 // Why an image is no volume of this profile, and why a layer gave no answer.
 ghost use Rattle.std.specs.Prelude.{◌≡◌};
-ghost use Rattle.udf_layer.specs.declared.missing.LayerStop.TheVariants.{Fault, Memory};
+ghost use Rattle.udf_layer.specs.declared.missing.WorkStop.TheVariants.{Fault, Memory};
+ghost use Rattle.udf_layer.specs.declared.missing.LayerStop.TheVariants as stops;
 
-use std::alloc::AllocError;
+use std::alloc::{AllocError, AllocFailed};
 use udf_outside::Failed;
 
 /// What a volume asks that this profile has not.
@@ -40,6 +41,37 @@ pub enum Missing {
     WriteProtected,
 }
 
+/// Why work ended.
+#[derive(Clone, Copy, Debug, PartialEq, Eq)]
+pub enum WorkStop {
+    Fault,
+    Memory,
+}
+
+impl From<Failed> for WorkStop {
+    ghost from_gives = { λ _ e. e ≡ Fault };
+
+    fn from(_: Failed) -> Self {
+        WorkStop::Fault
+    }
+}
+
+impl From<AllocError> for WorkStop {
+    ghost from_gives = { λ _ e. e ≡ Memory };
+
+    fn from(_: AllocError) -> Self {
+        WorkStop::Memory
+    }
+}
+
+impl<T: Drop> From<AllocFailed<T>> for WorkStop {
+    ghost from_gives = { λ _ e. e ≡ Memory };
+
+    fn from(_: AllocFailed<T>) -> Self {
+        WorkStop::Memory
+    }
+}
+
 /// Why a layer gave no answer.
 #[derive(Clone, Copy, Debug, PartialEq, Eq)]
 pub enum LayerStop {
@@ -48,8 +80,21 @@ pub enum LayerStop {
     Memory,
 }
 
+impl From<WorkStop> for LayerStop {
+    ghost use Rattle.udf_layer.specs.Causes.{layer_stop};
+
+    ghost from_gives = { λ stop e. e ≡ layer_stop stop };
+
+    fn from(stop: WorkStop) -> Self {
+        match stop {
+            WorkStop::Fault => LayerStop::Fault,
+            WorkStop::Memory => LayerStop::Memory,
+        }
+    }
+}
+
 impl From<Failed> for LayerStop {
-    ghost from_gives = { λ _ e. e ≡ Fault };
+    ghost from_gives = { λ _ e. e ≡ stops.Fault };
 
     fn from(_: Failed) -> Self {
         LayerStop::Fault
@@ -57,7 +102,7 @@ impl From<Failed> for LayerStop {
 }
 
 impl From<AllocError> for LayerStop {
-    ghost from_gives = { λ _ e. e ≡ Memory };
+    ghost from_gives = { λ _ e. e ≡ stops.Memory };
 
     fn from(_: AllocError) -> Self {
         LayerStop::Memory

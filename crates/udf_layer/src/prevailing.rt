@@ -11,7 +11,7 @@ ghost use Rattle.udf_layer.specs.Tables.{area_at, area_bytes, entries, entry_cou
 
 use crate::entries::used_entries;
 use crate::whole_table::{HEAD_BYTES, WholeTable, front_bytes, is_whole_table};
-use crate::{LayerStop, Missing, SparingMap, SparingTable};
+use crate::{LayerStop, Missing, SparingMap, SparingTable, WorkStop};
 use std::alloc::Global;
 use udf_outside::{Bench, Role};
 
@@ -26,12 +26,12 @@ fn bytes_of_area(size: u32, bytes: u32) -> u64
 }
 
 // How many bytes of the area from an offset on matter, by its first bytes.
-fn needed_bytes<B: Bench>(bench: &mut B, start: u64) -> Result<u32, LayerStop>
+fn needed_bytes<B: Bench>(bench: &mut B, start: u64) -> Result<u32, WorkStop>
     requires attached { IsAttached Image (B.files bench.old) }
     requires within { start + 56 ≤ (B.files bench.old).image.size }
     ensures needed { B.tells → IfOk result (λ n. n ≡ front_length (slice_of (bytes_of Image (B.held bench.old)) start 56)) }
     ensures some { IfOk result (λ n. 56 ≤ n) }
-    ensures reads { OnlyReads B.files B.held B.faults bench.old bench.new LayerStop.Fault result }
+    ensures reads { OnlyReads B.files B.held B.faults bench.old bench.new WorkStop.Fault result }
 {
     let mut head = [0u8; HEAD_BYTES as usize];
     bench.read_at(Role::Image, start, &mut head)?;
@@ -44,12 +44,12 @@ fn read_bytes<B: Bench>(
     bench: &mut B,
     start: u64,
     many: usize,
-) -> Result<Vec<u8>, LayerStop>
+) -> Result<Vec<u8>, WorkStop>
     requires attached { IsAttached Image (B.files bench.old) }
     requires within { start + many ≤ (B.files bench.old).image.size }
     ensures bytes { B.tells → IfOk result (λ v. v.items ≡ slice_of (bytes_of Image (B.held bench.old)) start many) }
     ensures len { IfOk result (λ v. length v.items ≡ many) }
-    ensures reads { OnlyReads B.files B.held B.faults bench.old bench.new LayerStop.Fault result }
+    ensures reads { OnlyReads B.files B.held B.faults bench.old bench.new WorkStop.Fault result }
 {
     let mut bytes = vec![in alloc; 0; many]?;
     bench.read_at(Role::Image, start, &mut bytes)?;
@@ -64,14 +64,14 @@ fn read_front<B: Bench>(
     size: u32,
     bytes: u32,
     at: u32,
-) -> Result<Vec<u8>, LayerStop>
+) -> Result<Vec<u8>, WorkStop>
     requires attached { IsAttached Image (B.files bench.old) }
     requires large { 512 ≤ size }
     requires some { 56 ≤ bytes }
     requires within { at * size + area_bytes size bytes ≤ (B.files bench.old).image.size }
     ensures front { B.tells → IfOk result (λ front. front.items ≡ table_front (area_at size (bytes_of Image (B.held bench.old)) bytes at)) }
     ensures long { IfOk result (λ front. 56 ≤ length front.items) }
-    ensures reads { OnlyReads B.files B.held B.faults bench.old bench.new LayerStop.Fault result }
+    ensures reads { OnlyReads B.files B.held B.faults bench.old bench.new WorkStop.Fault result }
 {
     let start = at as u64 * size as u64;
     let needed = needed_bytes(bench, start)?;
@@ -98,13 +98,13 @@ fn read_table<B: Bench>(
     size: u32,
     bytes: u32,
     at: u32,
-) -> Result<Option<WholeTable>, LayerStop>
+) -> Result<Option<WholeTable>, WorkStop>
     requires attached { IsAttached Image (B.files bench.old) }
     requires large { 512 ≤ size }
     requires some { 56 ≤ bytes }
     requires within { at * size + area_bytes size bytes ≤ (B.files bench.old).image.size }
     ensures table { B.tells → IfOk result (IsRead (table_number bytes at (area_at size (bytes_of Image (B.held bench.old)) bytes at)) (entries (area_at size (bytes_of Image (B.held bench.old)) bytes at))) }
-    ensures reads { OnlyReads B.files B.held B.faults bench.old bench.new LayerStop.Fault result }
+    ensures reads { OnlyReads B.files B.held B.faults bench.old bench.new WorkStop.Fault result }
 {
     let front = read_front(alloc, bench, size, bytes, at)?;
     Ok(table_of(bytes, at, front))
@@ -134,13 +134,13 @@ fn best_table<B: Bench>(
     bench: &mut B,
     size: u32,
     map: &SparingMap,
-) -> Result<Option<WholeTable>, LayerStop>
+) -> Result<Option<WholeTable>, WorkStop>
     requires attached { IsAttached Image (B.files bench.old) }
     requires large { 512 ≤ size }
     requires map { IsTableMap size (B.files bench.old).image.size map.now }
     ensures best { B.tells → IfOk result (IsBest (listed_number size (bytes_of Image (B.held bench.old)) map.now)
         (λ i. entries (listed_area size (bytes_of Image (B.held bench.old)) map.now i)) map.now.count) }
-    ensures reads { OnlyReads B.files B.held B.faults bench.old bench.new LayerStop.Fault result }
+    ensures reads { OnlyReads B.files B.held B.faults bench.old bench.new WorkStop.Fault result }
 {
     let mut best = None;
     for i in 0..map.count as usize {

@@ -1,9 +1,9 @@
 -- One entry more.
-use Rattle.std.proofs.Common.{◌≡◌, ℕ, ◌<◌, ◌+◌, List, ◌++◌, ◌∷◌, [], length, map, sym, ◌∙◌, ap, subst, arith, refl}
+use Rattle.std.proofs.Common.{◌≡◌, ℕ, List, ◌++◌, ◌∷◌, [], length, map, sym, ◌∙◌, ap, subst, arith}
 use Rattle.std.specs.List.{range_with_len}
 use Rattle.std.proofs.lemmas.List.FromFn.{map-range_with_len_more, length-map-range_with_len}
 use Rattle.udf_model.specs.Bytes.{number_at}
-use Rattle.udf_layer.specs.Tables.{entries, entry_at, entry_count, used_pairs, firsts}
+use Rattle.udf_layer.specs.Tables.{entries, entry_at, used_pairs, firsts}
 use Rattle.udf_layer.proofs.Used.{used_few}
 use Rattle.udf_layer.proofs.entries.used_entries.Goals as goal
 

@@ -1,6 +1,5 @@
 -- An entry is used where it names a packet of the partition that no earlier one names.
-use Rattle.std.proofs.Common.{◌≡◌, ℕ, List, ◌++◌, ◌∷◌, [], true, false, is_some, sym, ◌∙◌, ap}
-use Rattle.udf_layer.specs.Indexes.{mapped_from}
+use Rattle.std.proofs.Common.{◌≡◌, ◌++◌, ◌∷◌, [], sym, ◌∙◌, ap}
 use Rattle.udf_layer.specs.Table.{Table}
 use Rattle.udf_layer.specs.Tables.{is_original, used_pairs}
 use Rattle.udf_layer.proofs.Used.{not_original, comes_again, is_used, if_ok}

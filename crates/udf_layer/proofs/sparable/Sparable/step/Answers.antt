@@ -1,5 +1,5 @@
 -- What is placed below stands, and so does a block whose packet is mapped.
-use Rattle.std.proofs.Common.{◌≡◌, ◌∙◌, ℕ, Option, ap, is_some, sym, arith}
+use Rattle.std.proofs.Common.{◌∙◌, ℕ, Option, ap, is_some, sym, arith}
 use Rattle.udf_layer.proofs.SparedFronts.{run_most, run_stands, spared_stands, stands_nowhere}
 use Rattle.udf_layer.proofs.sparable.Sparable.step.Goals as goal
 

@@ -1,5 +1,5 @@
 -- The walk ends at the last block, at the partition's end, or at the first block that stands nowhere.
-use Rattle.std.proofs.Common.{◌≡◌, ◌+◌, arith, sym}
+use Rattle.std.proofs.Common.{arith}
 use Rattle.udf_layer.proofs.SparedFronts.{ends_at_gap, ends_beyond, ends_whole, further}
 use Rattle.udf_layer.proofs.sparable.SparableLayer.placed.Goals as goal
 

@@ -1,5 +1,5 @@
 -- One pair more, whose original is new.
-use Rattle.std.proofs.Common.{◌≡◌, ◌+◌, ◌<◌, ℕ, None, length, ap, ◌∙◌, arith}
+use Rattle.std.proofs.Common.{length, ap, ◌∙◌, arith}
 use Rattle.udf_layer.specs.Table.{Table}
 use Rattle.udf_layer.specs.Indexes.{mapped_from}
 use Rattle.udf_layer.proofs.Kept.{one_kept}
