@@ -28,3 +28,6 @@ pub use physical::Physical;
 pub use prevailing::sparing_table;
 pub use sparable::{Sparable, spare_law};
 pub use table::SparingTable;
+
+#[cfg(test)]
+mod tests;

@@ -1,5 +1,5 @@
 // The prevailing sparing table of a volume (UDF 2.50 2.2.12).
-ghost use Rattle.std.specs.Prelude.{◌≡◌, ◌+◌, ◌*◌, ◌<◌, ◌≤◌, ℕ, List, IfOk, IfErr, IsErrOf, Option, Some, None, length, slice_index, take};
+ghost use Rattle.std.specs.Prelude.{◌≡◌, ◌+◌, ◌*◌, ◌<◌, ◌≤◌, ℕ, List, IfOk, IfErr, IsErrOf, Option, Some, None, length};
 ghost use Rattle.udf_outside.specs.Files.{IsAttached};
 ghost use Rattle.udf_outside.specs.Reads.{OnlyReads};
 ghost use Rattle.udf_outside.specs.Stops.{bytes_of, slice_of};
@@ -7,7 +7,7 @@ ghost use Rattle.udf_outside.specs.declared.bench.Role.TheVariants.{Image};
 ghost use Rattle.udf_layer.specs.Fronts.{front_length, table_front};
 ghost use Rattle.udf_layer.specs.Prevailing.{IsTableMap, listed_area, listed_number, table_stated};
 ghost use Rattle.udf_layer.specs.Read.{IsBest, IsRead, IsTableStop, IsUsedTable};
-ghost use Rattle.udf_layer.specs.Tables.{area_at, area_bytes, entries, entry_count, table_number};
+ghost use Rattle.udf_layer.specs.Tables.{area_at, area_bytes, entries, table_number};
 
 use crate::entries::used_entries;
 use crate::whole_table::{HEAD_BYTES, WholeTable, front_bytes, is_whole_table};

@@ -1,13 +1,9 @@
 // Sparing tables (UDF 2.50 2.2.12), as they are used.
-ghost use Rattle.std.specs.Prelude.{◌≡◌, ◌+◌, ◌++◌, ◌∷◌, [], ◌<◌, ◌≤◌, ◌^◌, ℕ, IfOk, IsSome, is_some, length, not, true, slice_get, Some, None};
-ghost use Rattle.std.specs.List.{list_all, list_any};
-ghost use Rattle.std.specs.Prelude.{◌==◌, List};
-ghost use Rattle.std.specs.Ordering.{nat_cmp};
-ghost use Rattle.std.specs.BTreeSet.{contains};
+ghost use Rattle.std.specs.Prelude.{◌≡◌, ◌+◌, ◌++◌, ◌∷◌, [], ◌<◌, ◌^◌, IfOk, is_some, length, true, slice_get, Some, None};
 ghost use Rattle.udf_file_model.specs.Place.{spared_to};
 ghost use Rattle.udf_layer.specs.Indexes.{mapped_from};
 ghost use Rattle.udf_layer.specs.Lawful.{is_lawful};
-ghost use Rattle.udf_layer.specs.Packets.{packet_apart, packets_fit};
+ghost use Rattle.udf_layer.specs.Packets.{packets_fit};
 
 use crate::Area;
 use crate::free::are_free;
