@@ -8,3 +8,4 @@ pub mod Used
 pub mod AreaFronts
 pub mod WholeTables
 pub mod Prevails
+pub mod Best

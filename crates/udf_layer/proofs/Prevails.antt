@@ -7,7 +7,7 @@ use Rattle.std.proofs.lemmas.Option.{slice_get_past, slice_get-get_or}
 use Rattle.std.proofs.lemmas.List.Sums.{position_or_len_is, list_all-from_AllPass}
 use Rattle.std.proofs.lemmas.List.Folds.{list_all_at, find_at}
 use Rattle.std.proofs.lemmas.List.FromFn.{length-range_with_len, get_or-range_with_len}
-use Rattle.udf_layer.specs.Prevailing.{at_most, is_highest, is_top, prevailing_index}
+use Rattle.udf_layer.specs.Prevailing.{Prevails, at_most, is_highest, is_top, prevailing_index}
 use Rattle.udf_layer.specs.Read.{BestAt}
 use Rattle.udf_layer.specs.declared.whole_table.WholeTable.{WholeTable}
 
@@ -67,10 +67,19 @@ module _ (numbers : ℕ → Option ℕ) (count : ℕ) where
   earlier_fails k best n None e inside f less = low k e
   earlier_fails k best n (Some m) e inside f less = lower k m best n e inside f (less m e)
 
+  pub highest_prevails : (best : ℕ) → Prevails numbers count best → prevailing_index numbers count ≡ Some best
+  highest_prevails best is =
+      first_is best is.within (high best is.number is.whole (λ k m h e. is.highest k h m e))
+      (λ k h. earlier_fails k best is.number (numbers k) refl is.within is.whole (λ m e. is.earliest k m h e))
+
   pub best_prevails : (lists : ℕ → List (ℕ × ℕ)) (table : WholeTable) (best : ℕ) → BestAt numbers lists count table best → prevailing_index numbers count ≡ Some best
-  best_prevails lists table best is =
-      first_is best is.within (high best table.number is.stands is.highest)
-      (λ k h. earlier_fails k best table.number (numbers k) refl is.within is.stands (λ m e. is.earliest k m h e))
+  best_prevails lists table best is = highest_prevails best (record {
+    within = is.within;
+    number = table.number;
+    whole = is.stands;
+    highest = λ k h n e. is.highest k n h e;
+    earliest = is.earliest;
+  })
 
   pub none_prevails : ((k : ℕ) → k < count → numbers k ≡ None) → prevailing_index numbers count ≡ None
   none_prevails none = none_is (λ k h. low k (none k h))

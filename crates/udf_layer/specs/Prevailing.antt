@@ -1,6 +1,6 @@
 -- The sparing table that prevails, as it is used (UDF 2.50 2.2.12): of the whole ones the one with the highest sequence number, the
 -- earliest listed of equals.
-use Rattle.std.specs.Prelude.{ℕ, ◌+◌, ◌*◌, ◌<◌, ◌≤◌, Bool, true, false, nat_le, Option, Some, None, List, find, slice_index}
+use Rattle.std.specs.Prelude.{◌≡◌, ℕ, ◌+◌, ◌*◌, ◌<◌, ◌≤◌, Bool, true, false, nat_le, Option, Some, None, List, find, slice_index}
 use Rattle.std.specs.List.{list_all, range_with_len}
 use Rattle.std.specs.Option.{option_map}
 use Rattle.udf_layer.specs.declared.maps.SparingMap.{SparingMap}
@@ -24,6 +24,15 @@ is_highest numbers count i = is_top (λ n. list_all (λ k. at_most (numbers k) n
 -- the index of the table that prevails: the first that is highest
 unfoldable pub prevailing_index : (ℕ → Option ℕ) → ℕ → Option ℕ
 prevailing_index numbers count = find (is_highest numbers count) (range_with_len 0 count)
+
+-- The table at an index prevails: it is whole, none has a higher number, and none before it an equal one; `prevailing_law` says
+-- that this is the table that is found.
+pub record Prevails (numbers : ℕ → Option ℕ) (count best : ℕ) : Type 0 where
+  pub within : best < count
+  pub number : ℕ
+  pub whole : numbers best ≡ Some number
+  pub highest : (k : ℕ) → k < count → (n : ℕ) → numbers k ≡ Some n → n ≤ number
+  pub earliest : (k n : ℕ) → k < best → numbers k ≡ Some n → n < number
 
 -- the area of the table that a map lists at an index
 abbrev pub listed_area : ℕ → List ℕ → SparingMap → ℕ → List ℕ

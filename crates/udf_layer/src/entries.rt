@@ -3,16 +3,11 @@ ghost use Rattle.std.specs.Prelude.{◌≡◌, ◌+◌, ◌*◌, ◌++◌, ◌�
 ghost use Rattle.udf_layer.specs.Tables.{entries, entry_at, entry_count, is_original, used_pairs};
 
 use crate::SparingTable;
+use crate::whole_table::{COUNT_AT, ENTRY_BYTES, HEAD_BYTES};
 use std::alloc::{AllocError, Global};
 use udf_field::Fields;
 
-// Offsets of the number of entries, and of the first entry.
-const COUNT_AT: usize = 48;
-
-const ENTRIES_AT: usize = 56;
-
-const ENTRY_BYTES: usize = 8;
-
+/// The offset of the mapped location in an entry.
 const MAPPED_AT: usize = 4;
 
 // Original and mapped location of an entry.
@@ -22,7 +17,7 @@ fn entry(table: &[u8], i: u16) -> (u32, u32)
     ensures { result ≡ entry_at table.now i }
 {
     let fields = Fields::over(table);
-    let at = ENTRIES_AT + ENTRY_BYTES * i as usize;
+    let at = (HEAD_BYTES + ENTRY_BYTES * i as u32) as usize;
     (fields.u32_at(at), fields.u32_at(at + MAPPED_AT))
 }
 

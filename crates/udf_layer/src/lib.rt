@@ -25,7 +25,7 @@ pub use missing::{LayerStop, Missing, ProfileItem, WorkStop};
 pub use one::One;
 pub use parts::Parts;
 pub use physical::Physical;
-pub use prevailing::sparing_table;
+pub use prevailing::{prevailing_law, sparing_table};
 pub use sparable::{Sparable, spare_law};
 pub use table::SparingTable;
 

@@ -1,11 +1,11 @@
 // The prevailing sparing table of a volume (UDF 2.50 2.2.12).
-ghost use Rattle.std.specs.Prelude.{◌≡◌, ◌+◌, ◌*◌, ◌<◌, ◌≤◌, ℕ, List, IfOk, IfErr, IsErrOf, Option, Some, None, length};
+ghost use Rattle.std.specs.Prelude.{◌≡◌, ◌↔◌, ◌+◌, ◌*◌, ◌<◌, ◌≤◌, ℕ, List, IfOk, IfErr, IsErrOf, Option, Some, None, length};
 ghost use Rattle.udf_outside.specs.Files.{IsAttached};
 ghost use Rattle.udf_outside.specs.Reads.{OnlyReads};
 ghost use Rattle.udf_outside.specs.Stops.{bytes_of, slice_of};
 ghost use Rattle.udf_outside.specs.declared.bench.Role.TheVariants.{Image};
 ghost use Rattle.udf_layer.specs.Fronts.{front_length, table_front};
-ghost use Rattle.udf_layer.specs.Prevailing.{IsTableMap, listed_area, listed_number, table_stated};
+ghost use Rattle.udf_layer.specs.Prevailing.{IsTableMap, Prevails, listed_area, listed_number, prevailing_index, table_stated};
 ghost use Rattle.udf_layer.specs.Read.{IsBest, IsRead, IsTableStop, IsUsedTable};
 ghost use Rattle.udf_layer.specs.Tables.{area_at, area_bytes, entries, table_number};
 
@@ -177,3 +177,9 @@ pub fn sparing_table<B: Bench>(
     let used = used_entries(alloc, map.packet as u32, blocks, &table.bytes)?;
     Ok(used)
 }
+
+/// A table is found exactly where it prevails, and none exactly where none is whole.
+pub fn prevailing_law()
+    ensures found { (numbers : ℕ → Option ℕ) (count best : ℕ) → (prevailing_index numbers count ≡ Some best) ↔ Prevails numbers count best }
+    ensures none { (numbers : ℕ → Option ℕ) (count : ℕ) → (prevailing_index numbers count ≡ None) ↔ ((k : ℕ) → k < count → numbers k ≡ None) }
+{}

@@ -15,7 +15,8 @@ const CRC_LENGTH_AT: usize = 10;
 
 const ENTITY_AT: usize = 16;
 
-const COUNT_AT: usize = 48;
+/// The offset of the number of entries.
+pub(crate) const COUNT_AT: usize = 48;
 
 const SEQUENCE_AT: usize = 52;
 
@@ -25,7 +26,8 @@ const TAG_BYTES: u32 = 16;
 /// The bytes of a table before its entries.
 pub(crate) const HEAD_BYTES: u32 = 56;
 
-const ENTRY_BYTES: u32 = 8;
+/// The bytes of an entry.
+pub(crate) const ENTRY_BYTES: u32 = 8;
 
 /// A table that was read and is whole: its sequence number, and the front of its area, which has its entries.
 #[derive(Debug, Drop)]
