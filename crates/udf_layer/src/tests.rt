@@ -1,10 +1,12 @@
 // Worked cases of sparable partitions and of their tables.
 ghost use Rattle.std.specs.Prelude.{◌≡◌, length};
 
-use crate::{Area, Layer, LayerStop, Physical, Sparable, SparingMap, SparingTable, sparing_table};
+use crate::{
+    Area, Layer, LayerStop, One, Parts, Physical, Sparable, SparingMap, SparingTable, sparing_table,
+};
 use std::alloc::Global;
 use std::test::Fail;
-use udf_field::{FieldsMut, retag};
+use udf_field::{Addr, FieldsMut, retag};
 use udf_outside::{Access, Bench, MemBench, Role};
 
 // A table of two entries with a sequence number, whole at a sector.
@@ -49,6 +51,17 @@ fn a_mapped_packet_stands_elsewhere(rt: HostRuntime) -> Result<(), Fail> {
     assert_eq!(rt; layer.locate(32), None);
     assert_eq!(rt; layer.twin(3), None);
     assert_eq!(rt; layer.placed(3, 40), 29);
+    Ok(())
+}
+
+#[test]
+fn one_partition_has_the_reference_0(rt: HostRuntime) -> Result<(), Fail> {
+    let parts = One::new(Physical::new(800, 32));
+    assert_eq!(rt; parts.locate(Addr { part: 0, block: 3 }), Some(803));
+    assert_eq!(rt; parts.locate(Addr { part: 1, block: 3 }), None);
+    assert_eq!(rt; parts.placed(Addr { part: 0, block: 3 }, 40), 29);
+    assert_eq!(rt; parts.base().blocks(), 32);
+    assert!(rt; !parts.inner(Addr { part: 0, block: 3 }));
     Ok(())
 }
 
