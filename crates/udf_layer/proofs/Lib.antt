@@ -1,1 +1,11 @@
 pub mod PlacedFronts
+pub mod Near
+pub mod Mapping
+pub mod Kept
+pub mod Spare
+pub mod SparedFronts
+pub mod Used
+pub mod AreaFronts
+pub mod WholeTables
+pub mod Prevails
+pub mod Best

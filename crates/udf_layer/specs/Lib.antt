@@ -1,4 +1,14 @@
--- The definitions and lemmas that the laws of layers cite.
+-- Sparing tables, and the lemmas that the laws of layers cite.
 pub mod StandsAt
 pub mod Physicals
 pub mod Lone
+pub mod Packets
+pub mod Table
+pub mod Tables
+pub mod Fronts
+pub mod Prevailing
+pub mod Read
+pub mod Spared
+pub mod Indexes
+pub mod Lawful
+pub mod Causes

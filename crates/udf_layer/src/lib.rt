@@ -4,13 +4,30 @@
 #![tactic(auto)]
 
 mod area;
+mod entries;
+mod free;
 mod layer;
+mod maps;
+mod missing;
 mod one;
 mod parts;
 mod physical;
+mod prevailing;
+mod sectors;
+mod sparable;
+mod table;
+mod whole_table;
 
 pub use area::Area;
 pub use layer::Layer;
+pub use maps::{MetaMap, SparingMap};
+pub use missing::{LayerStop, Missing, ProfileItem, WorkStop};
 pub use one::One;
 pub use parts::Parts;
 pub use physical::Physical;
+pub use prevailing::{prevailing_law, sparing_table};
+pub use sparable::{Sparable, spare_law};
+pub use table::SparingTable;
+
+#[cfg(test)]
+mod tests;

@@ -1,0 +1,85 @@
+-- The best of all tables prevails.
+use Rattle.std.proofs.Common.{◌≡◌, ℕ, ◌+◌, ◌<◌, ◌≤◌, arith, refl, ◌∙◌, ap, List, length, get_or, true, false, Option, Some, None, nat_le}
+use Rattle.std.specs.Prelude.{slice_get}
+use Rattle.std.specs.List.{list_all, range_with_len}
+use Rattle.std.proofs.lemmas.Bool.Decides.{nat_tests}
+use Rattle.std.proofs.lemmas.Option.{slice_get_past, slice_get-get_or}
+use Rattle.std.proofs.lemmas.List.Sums.{position_or_len_is, list_all-from_AllPass}
+use Rattle.std.proofs.lemmas.List.Folds.{list_all_at, find_at}
+use Rattle.std.proofs.lemmas.List.FromFn.{length-range_with_len, get_or-range_with_len}
+use Rattle.udf_layer.specs.Prevailing.{Prevails, at_most, is_highest, is_top, prevailing_index}
+use Rattle.udf_layer.specs.Read.{BestAt}
+use Rattle.udf_layer.specs.declared.whole_table.WholeTable.{WholeTable}
+
+at_most_true : (o : Option ℕ) (n : ℕ) → ((m : ℕ) → o ≡ Some m → m ≤ n) → at_most o n ≡ true
+at_most_true None n h = refl
+at_most_true (Some m) n h = let le : m ≤ n = h m refl in grind (arith, nat_tests)
+
+not_below : (n m : ℕ) → m < n → nat_le n m ≡ false
+not_below n m h = grind (arith, nat_tests)
+
+module _ (numbers : ℕ → Option ℕ) (count : ℕ) where
+  item : (k d : ℕ) → k < count → get_or (range_with_len 0 count) k d ≡ k
+  item k d h = let same : 0 + k ≡ k = omega arith in get_or-range_with_len 0 count k d h ∙ same
+
+  -- the first that passes
+  first_is : (best : ℕ) → best < count → is_highest numbers count best ≡ true
+      → ((k : ℕ) → k < best → is_highest numbers count k ≡ false) → prevailing_index numbers count ≡ Some best
+  unfolding prevailing_index
+  first_is best inside passes fails =
+      let room : best < length (range_with_len 0 count) = omega (arith, length-range_with_len 0 count) in
+      find_at (is_highest numbers count) (range_with_len 0 count)
+      ∙ ap (slice_get (range_with_len 0 count)) (position_or_len_is (is_highest numbers count) (range_with_len 0 count) best 0 (omega arith)
+      (λ k h. ap (is_highest numbers count) (item k 0 (omega arith)) ∙ fails k h)
+      (λ h. ap (is_highest numbers count) (item best 0 inside) ∙ passes))
+      ∙ slice_get-get_or (range_with_len 0 count) best 0 room ∙ ap (λ (n : ℕ). Some n) (item best 0 inside)
+
+  none_is : ((k : ℕ) → k < count → is_highest numbers count k ≡ false) → prevailing_index numbers count ≡ None
+  unfolding prevailing_index
+  none_is fails =
+      find_at (is_highest numbers count) (range_with_len 0 count)
+      ∙ ap (slice_get (range_with_len 0 count)) (position_or_len_is (is_highest numbers count) (range_with_len 0 count) (length (range_with_len 0 count)) 0 (omega arith)
+      (λ k h. let less : k < count = omega (arith, length-range_with_len 0 count) in ap (is_highest numbers count) (item k 0 less) ∙ fails k less)
+      (λ h. absurd (omega arith)))
+      ∙ slice_get_past (range_with_len 0 count) (length (range_with_len 0 count)) (omega arith)
+
+  high : (best n : ℕ) → numbers best ≡ Some n → ((k m : ℕ) → k < count → numbers k ≡ Some m → m ≤ n) → is_highest numbers count best ≡ true
+  unfolding is_highest
+  high best n e highest =
+      ap (is_top (λ n. list_all (λ k. at_most (numbers k) n) (range_with_len 0 count))) e
+      ∙ list_all-from_AllPass (λ k. at_most (numbers k) n) (range_with_len 0 count) (λ k d h.
+      let less : k < count = omega (arith, length-range_with_len 0 count) in
+      ap (λ j. at_most (numbers j) n) (item k d less) ∙ at_most_true (numbers k) n (λ m f. highest k m less f))
+
+  low : (k : ℕ) → numbers k ≡ None → is_highest numbers count k ≡ false
+  unfolding is_highest
+  low k e = ap (is_top (λ n. list_all (λ k. at_most (numbers k) n) (range_with_len 0 count))) e
+
+  lower : (k m best n : ℕ) → numbers k ≡ Some m → best < count → numbers best ≡ Some n → m < n → is_highest numbers count k ≡ false
+  unfolding is_highest
+  lower k m best n e inside f less =
+      ap (is_top (λ n. list_all (λ k. at_most (numbers k) n) (range_with_len 0 count))) e
+      ∙ list_all_at (λ j. at_most (numbers j) m) (range_with_len 0 count) best 0 (omega (arith, length-range_with_len 0 count))
+      (ap (λ j. at_most (numbers j) m) (item best 0 inside) ∙ ap (λ o. at_most o m) f ∙ not_below n m less)
+
+  earlier_fails : (k best n : ℕ) (o : Option ℕ) → numbers k ≡ o → best < count → numbers best ≡ Some n → ((m : ℕ) → numbers k ≡ Some m → m < n)
+      → is_highest numbers count k ≡ false
+  earlier_fails k best n None e inside f less = low k e
+  earlier_fails k best n (Some m) e inside f less = lower k m best n e inside f (less m e)
+
+  pub highest_prevails : (best : ℕ) → Prevails numbers count best → prevailing_index numbers count ≡ Some best
+  highest_prevails best is =
+      first_is best is.within (high best is.number is.whole (λ k m h e. is.highest k h m e))
+      (λ k h. earlier_fails k best is.number (numbers k) refl is.within is.whole (λ m e. is.earliest k m h e))
+
+  pub best_prevails : (lists : ℕ → List (ℕ × ℕ)) (table : WholeTable) (best : ℕ) → BestAt numbers lists count table best → prevailing_index numbers count ≡ Some best
+  best_prevails lists table best is = highest_prevails best (record {
+    within = is.within;
+    number = table.number;
+    whole = is.stands;
+    highest = λ k h n e. is.highest k n h e;
+    earliest = is.earliest;
+  })
+
+  pub none_prevails : ((k : ℕ) → k < count → numbers k ≡ None) → prevailing_index numbers count ≡ None
+  none_prevails none = none_is (λ k h. low k (none k h))

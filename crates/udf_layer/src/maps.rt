@@ -1,0 +1,23 @@
+// Partition maps of type 2 (ECMA-167 3/10.7.3) that name what lies elsewhere in the volume.
+
+/// A sparable partition map (UDF 2.50 2.2.9): blocks in a packet, number of tables, bytes of a table, and the tables' sectors.
+#[derive(Clone, Copy, Debug, PartialEq, Eq)]
+pub struct SparingMap {
+    pub packet: u16,
+    pub count: u8,
+    pub bytes: u32,
+    pub at: [u32; 4],
+}
+
+/// A metadata partition map (UDF 2.50 2.2.10): the blocks of the entries of the main, the mirror and the bitmap file
+/// (0xFFFFFFFF for none), allocation and alignment unit in blocks, and the flags, of which bit 0 says that the mirror is a
+/// duplicate.
+#[derive(Clone, Copy, Debug, PartialEq, Eq)]
+pub struct MetaMap {
+    pub main: u32,
+    pub mirror: u32,
+    pub bitmap: u32,
+    pub unit: u32,
+    pub align: u16,
+    pub flags: u8,
+}
