@@ -1,8 +1,8 @@
 -- What stands in the side file once a log is written behind a closed gate.
-use Rattle.std.proofs.Common.{◌≡◌, ◌<◌, ◌≤◌, ⊎_elim, ℕ, ◌+◌, ◌*◌, ◌/◌, ◌^◌, ◌==◌, true, ◌||◌, List, ◌++◌, length, drop, refl, sym, ◌∙◌, ap, subst, arith, Ok}
+use Rattle.std.proofs.Common.{◌≡◌, ◌<◌, ◌≤◌, ℕ, ◌+◌, ◌*◌, ◌/◌, ◌^◌, true, List, ◌++◌, length, drop, refl, sym, ◌∙◌, ap, subst, arith, Ok}
 use Rattle.std.specs.List.{flat_map, All}
 use Rattle.std.proofs.lemmas.Slice.Eq.{bytes_eq-Decides}
-use Rattle.std.proofs.lemmas.Bool.{and_from, eq-eqb, eqb-true, or_cases, le-leb, lt-ltb}
+use Rattle.std.proofs.lemmas.Bool.{and_from, eq-eqb, le-leb, lt-ltb}
 use Rattle.std.proofs.Math.Nat.{mul-le-mul_right, div-mul-le_self}
 use Rattle.sha2.specs.Sha256.{sha256, digest_bytes}
 use Rattle.udf_outside.specs.Stops.{put}

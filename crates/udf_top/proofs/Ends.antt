@@ -23,7 +23,7 @@ use Rattle.udf_top.specs.declared.outcome.Outcome.{Outcome}
 use Rattle.udf_top.specs.declared.outcome.Outcome.TheVariants as outcome
 use Rattle.udf_rules.specs.Findings.{findings_in}
 use Rattle.udf_top.specs.Texts.{text_of, replayed_text}
-use Rattle.udf_top.specs.Repairing.{replaying, refused_log, refused_size, repaired_as, mend_of, mend_sized, mend_said, said_sized, written_in, repair_from, repair_of, said_from, repair_said}
+use Rattle.udf_top.specs.Repairing.{replaying, refused_log, refused_size, repaired_as, mend_of, mend_sized, said_sized, written_in, repair_from, repair_of, said_from, repair_said}
 use Rattle.udf_top.specs.Endings.{Ending, Mended, Told, DeviceFailed, Failed, ending_of, IsEnd, IsMendedOrFailed, IsUnopened, HasEnded, HasRepaired, HasRepairedOrFailed, HasOpenedNoGate}
 use Rattle.udf_top.specs.Headline.{IsDone, IsSafe, IsReplayed, Repairs}
 use Rattle.udf_top.specs.Steps.{IsSettling, IsMending, IsMended, Mends, Says}

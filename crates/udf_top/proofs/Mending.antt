@@ -25,7 +25,6 @@ use Rattle.udf_volume.specs.Opened.{opening}
 use Rattle.udf_volume.specs.Writable.{writable_opening, is_protected, by_protection}
 use Rattle.udf_volume.proofs.Described.{opened_ok}
 use Rattle.udf_repair_model.proofs.Repair.{accepted_is}
-use Rattle.udf_model.specs.Size.{is_size}
 use Rattle.udf_redo.specs.Settled.{IsFree}
 use Rattle.udf_rules.specs.declared.finding.Finding.{Finding}
 use Rattle.udf_top.specs.declared.outcome.Outcome.{Outcome}

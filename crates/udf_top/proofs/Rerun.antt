@@ -1,6 +1,6 @@
 -- Repairs after repairs.
 use Rattle.std.proofs.Common.{◌≡◌, inl, inr, ℕ, Option, Some, None, List, [], ◌∷◌, refl, sym, ◌∙◌}
-use Rattle.std.proofs.Common.{Ok, true, false}
+use Rattle.std.proofs.Common.{Ok, true}
 use Rattle.udf_outside.specs.declared.bench.Role.TheVariants.{Image, Side}
 use Rattle.udf_outside.specs.Stops.{Held, Pair, bytes_of, pair_of}
 use Rattle.udf_repair_model.proofs.Repair.{mend_stays}

@@ -1,5 +1,5 @@
 -- The block size of an image.
-use Rattle.std.proofs.Common.{◌≡◌, ◌≤◌, ◌<◌, ◌/◌, ◌&&◌, ℕ, nat_lt, length, sym, ◌∙◌, ap, subst, List, Bool, true, false, Result, Ok, Err, is_err}
+use Rattle.std.proofs.Common.{◌≡◌, ◌≤◌, ◌<◌, ◌/◌, ◌&&◌, ℕ, length, sym, ◌∙◌, ap, subst, List, Bool, true, false, Result, Ok, Err, is_err}
 use Rattle.std.specs.Prelude.{OnOk}
 use Rattle.std.proofs.lemmas.Bool.{le-ltb, lt-ltb}
 use Rattle.udf_model.specs.Image.{block_of}

@@ -1,12 +1,11 @@
 -- The block size that is found in a mended image.
-use Rattle.std.proofs.Common.{◌≡◌, ◌==◌, ◌-◌, ne_eqb, ◌⊎◌, inl, inr, ⊎_elim, ◌≤◌, ◌<◌, ◌+◌, ◌*◌, ◌/◌, ◌^◌, ℕ, zero, suc, arith, refl, sym, ◌∙◌, ap, subst, List, [], ◌∷◌, length, take, drop, get_or, Bool, true, false, cond, ◌&&◌, nat_lt, leb, Option, Some, None}
-use Rattle.std.specs.List.{find, list_all}
-use Rattle.std.proofs.lemmas.Bool.{le-ltb, lt-leb, and_parts, and_from, cases_Bool, eq-eqb, eqb-true, ltb-true, le-leb, or_cases}
+use Rattle.std.proofs.Common.{◌≡◌, ◌==◌, ◌-◌, ne_eqb, ◌⊎◌, inl, inr, ◌≤◌, ◌<◌, ◌+◌, ◌*◌, ◌/◌, ◌^◌, ℕ, zero, suc, arith, refl, sym, ◌∙◌, ap, subst, List, [], ◌∷◌, length, take, drop, Bool, true, false, cond, ◌&&◌, nat_lt, Option, Some, None}
+use Rattle.std.specs.List.{list_all}
+use Rattle.std.proofs.lemmas.Bool.{le-ltb, lt-leb, and_parts, and_from, cases_Bool, eq-eqb, eqb-true, ltb-true}
 use Rattle.std.proofs.lemmas.List.{take-take, get_or-take}
-use Rattle.udf_model.specs.Bytes.{number_at}
 use Rattle.udf_model.specs.Image.{block_of, blocks_in}
-use Rattle.udf_model.specs.Size.{is_size, sizes}
-use Rattle.udf_model.specs.Tag.{identifier, id_at, is_id, is_whole, location, relocated}
+use Rattle.udf_model.specs.Size.{sizes}
+use Rattle.udf_model.specs.Tag.{identifier, id_at, is_id, relocated}
 use Rattle.udf_model.proofs.Sizes.{large}
 use Rattle.udf_model.proofs.Written.{same_number}
 use Rattle.udf_volume_model.specs.Sequence.{Descriptor, view_of, is_listed}
@@ -23,14 +22,14 @@ use Rattle.udf_volume_laws.proofs.Walk.{Walks}
 use Rattle.udf_volume_laws.proofs.Moved.{IsTagged, moved_tagged, listed_tells}
 use Rattle.udf_volume_laws.proofs.Copies.{end_tagged}
 use Rattle.udf_volume_laws.proofs.Puts.{off, look_both, look_here, look_past}
-use Rattle.udf_volume_laws.proofs.Members.{IsIn, all_at}
+use Rattle.udf_volume_laws.proofs.Members.{IsIn}
 use Rattle.udf_volume_laws.proofs.Ascending.{to_ascending}
-use Rattle.udf_volume_laws.proofs.Places.{IsAnchor, two_tagged}
+use Rattle.udf_volume_laws.proofs.Places.{two_tagged}
 use Rattle.udf_volume_laws.proofs.Difference.{length_kept}
 use Rattle.udf_volume_laws.proofs.After.{IsOpened, Facts, facts, areas_in, after, whole, outside_stays, anchor_there, anchors_off_edits}
 use Rattle.udf_volume_laws.proofs.Led.{walks_of}
 use Rattle.udf_volume_laws.proofs.Pair.{kept_sequence}
-use Rattle.udf_volume_laws.proofs.Final.{opened_parts, given, put_disk, put_long, mended_is}
+use Rattle.udf_volume_laws.proofs.Final.{opened_parts, given, put_disk, mended_is}
 
 -- no descriptor of a sequence is an anchor
 not_two : (id : ℕ) → is_listed id ≡ true → id ≡ 2 → ⊥
@@ -85,12 +84,13 @@ first_place blocks many = by_one (cases_Bool (blocks - 1 == 256)) (cases_Bool (b
       let last : blocks - 1 ≡ 512 = eqb-true _ _ b in
       let is : blocks ≡ 513 = omega arith in
       (512 ∷ [], ap places is)
-  by_one (inr a) (inr b) =
-      ((blocks - 1) ∷ ((blocks - 1) - 256) ∷ [],
-       ap (λ (t : Bool). cond t [] (places_by (blocks - 1))) (ne_eqb blocks 0 (λ e. omega arith))
-       ∙ ap (λ (t : Bool). cond t ((blocks - 1) ∷ []) (cond (blocks - 1 == 256) (256 ∷ 0 ∷ []) (cond (blocks - 1 == 512) (256 ∷ 512 ∷ []) (256 ∷ (blocks - 1) ∷ ((blocks - 1) - 256) ∷ [])))) (le-ltb (blocks - 1) 256 (omega arith))
-       ∙ ap (λ (t : Bool). cond t (256 ∷ 0 ∷ []) (cond (blocks - 1 == 512) (256 ∷ 512 ∷ []) (256 ∷ (blocks - 1) ∷ ((blocks - 1) - 256) ∷ []))) a
-       ∙ ap (λ (t : Bool). cond t (256 ∷ 512 ∷ []) (256 ∷ (blocks - 1) ∷ ((blocks - 1) - 256) ∷ [])) b)
+  by_one (inr a) (inr b) = (
+    (blocks - 1) ∷ ((blocks - 1) - 256) ∷ [],
+    ap (λ (t : Bool). cond t [] (places_by (blocks - 1))) (ne_eqb blocks 0 (λ e. omega arith))
+        ∙ ap (λ (t : Bool). cond t ((blocks - 1) ∷ []) (cond (blocks - 1 == 256) (256 ∷ 0 ∷ []) (cond (blocks - 1 == 512) (256 ∷ 512 ∷ []) (256 ∷ (blocks - 1) ∷ ((blocks - 1) - 256) ∷ [])))) (le-ltb (blocks - 1) 256 (omega arith))
+        ∙ ap (λ (t : Bool). cond t (256 ∷ 0 ∷ []) (cond (blocks - 1 == 512) (256 ∷ 512 ∷ []) (256 ∷ (blocks - 1) ∷ ((blocks - 1) - 256) ∷ []))) a
+        ∙ ap (λ (t : Bool). cond t (256 ∷ 512 ∷ []) (256 ∷ (blocks - 1) ∷ ((blocks - 1) - 256) ∷ [])) b,
+  )
 
 module _ (size blocks : ℕ) (disk : ℕ → List ℕ) (volume : KeptSequence) (held : IsOpened size blocks disk volume) where
   known : Facts size blocks disk volume

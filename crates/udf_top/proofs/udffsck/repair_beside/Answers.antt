@@ -1,4 +1,4 @@
-use Rattle.std.proofs.Common.{inl, refl, sym, Some}
+use Rattle.std.proofs.Common.{inl, refl, sym}
 use Rattle.udf_top.specs.declared.outcome.Outcome.TheVariants as outcome
 use Rattle.udf_top.proofs.Safe.{unbegun}
 use Rattle.udf_top.proofs.Said.{says_same}
