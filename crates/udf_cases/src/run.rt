@@ -1,7 +1,7 @@
 //! A run of a tool over a bench in memory.
 ghost use Rattle.std.specs.Prelude.{◌≡◌, None, IfOk};
 ghost use Rattle.udf_outside.specs.Memory.{files_in, held_in, script_in};
-ghost use Rattle.udf_outside.specs.Stops.{IsSettled};
+ghost use Rattle.udf_outside.specs.Stops.{IsSynced};
 
 use crate::trouble::Trouble;
 use std::alloc::{AllocError, Global};
@@ -38,12 +38,12 @@ fn numbers(alloc: Global, number: Option<u64>) -> Result<Vec<u64>, AllocError> {
 }
 
 // A copy of a bench of which no call was made, with the calls of this trouble.
-#[tactic(auto, using(udf_outside::proofs::Moments::begun_settled))]
+#[tactic(auto, using(udf_outside::proofs::Moments::begun_synced))]
 fn troubled(alloc: Global, begun: &MemBench, trouble: &Trouble) -> Result<MemBench, AllocError>
     requires begun { (script_in begun.now).calls ≡ 0 }
     ensures image { IfOk result (λ bench. (files_in bench).image.asked ≡ None) }
     ensures side { IfOk result (λ bench. (files_in bench).side.asked ≡ None) }
-    ensures settled { IfOk result (λ bench. IsSettled (held_in bench)) }
+    ensures synced { IfOk result (λ bench. IsSynced (held_in bench)) }
 {
     let fail = numbers(alloc, trouble.fail)?;
     Ok(begun.again(alloc)?.armed(fail, trouble.stop))

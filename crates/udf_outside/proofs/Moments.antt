@@ -3,9 +3,9 @@ use Rattle.std.proofs.Common.{◌≡◌, ◌⊎◌, inl, inr, ◌≤◌, ℕ, �
 use Rattle.udf_outside.specs.declared.bench.Role.{Role}
 use Rattle.udf_outside.specs.declared.bench.Role.TheVariants.{Image, Side}
 use Rattle.udf_outside.specs.Files.{other}
-use Rattle.udf_outside.specs.Stops.{Content, Disk, Held, Pair, part_of, content_of, bytes_of, pair_of, Leaves, Now, moment, LeftSince, Since, IsDurable, IsSettled, Torn, is_within, moved_on, after_write, after_sync}
-use Rattle.udf_outside.specs.Memory.{settled_at}
-use Rattle.udf_outside.proofs.Torn.{leaves_torn, leaves_self, leaves_settled}
+use Rattle.udf_outside.specs.Stops.{Content, Disk, Held, Pair, part_of, content_of, bytes_of, pair_of, Leaves, Now, moment, LeftSince, Since, IsDurable, IsSynced, Torn, is_within, moved_on, after_write, after_sync}
+use Rattle.udf_outside.specs.Memory.{synced_at}
+use Rattle.udf_outside.proofs.Torn.{leaves_torn, leaves_self, leaves_synced}
 
 -- what reads give is a pair that a stop now may leave
 pub seen_now : (held : Held) → Now held (pair_of held)
@@ -77,15 +77,15 @@ torn_from role at n bytes held within torn pair now =
 -- after a sync each pair holds the role as a read gives it, and was a pair before
 pub sync_durable : (role : Role) (held : Held) → IsDurable role (after_sync role held)
 unfolding after_sync moved_on
-sync_durable Image held pair now = leaves_settled _ refl (λ i. refl) pair.0 now.0
-sync_durable Side held pair now = leaves_settled _ refl (λ i. refl) pair.1 now.1
+sync_durable Image held pair now = leaves_synced _ refl (λ i. refl) pair.0 now.0
+sync_durable Side held pair now = leaves_synced _ refl (λ i. refl) pair.1 now.1
 
 pub sync_adds_none : (role : Role) (held : Held) (pair : Pair) → Now (after_sync role held) pair → Now held pair
 unfolding after_sync moved_on
 sync_adds_none Image held pair now =
-    (subst (λ (l : List ℕ). Leaves held.now.image l) (sym (leaves_settled _ refl (λ i. refl) pair.0 now.0)) (leaves_self held.now.image), now.1)
+    (subst (λ (l : List ℕ). Leaves held.now.image l) (sym (leaves_synced _ refl (λ i. refl) pair.0 now.0)) (leaves_self held.now.image), now.1)
 sync_adds_none Side held pair now =
-    (now.0, subst (λ (l : List ℕ). Leaves held.now.side l) (sym (leaves_settled _ refl (λ i. refl) pair.1 now.1)) (leaves_self held.now.side))
+    (now.0, subst (λ (l : List ℕ). Leaves held.now.side l) (sym (leaves_synced _ refl (λ i. refl) pair.1 now.1)) (leaves_self held.now.side))
 
 -- a write or a sync of one role keeps the other durable
 other_durable : (role : Role) (content : Content) (held : Held) → IsDurable (other role) held → IsDurable (other role) (moved_on role content held)
@@ -101,14 +101,14 @@ pub sync_keeps_other : (role : Role) (held : Held) → IsDurable (other role) he
 unfolding after_sync
 sync_keeps_other role held durable = other_durable role _ held durable
 
--- settled is durable in both roles
-pub settled_from : (held : Held) → IsDurable Image held → IsDurable Side held → IsSettled held
-settled_from held image side pair now =
+-- synced is durable in both roles
+pub synced_from : (held : Held) → IsDurable Image held → IsDurable Side held → IsSynced held
+synced_from held image side pair now =
     ap (λ (l : List ℕ). let made : Pair = (l, pair.1) in made) (image pair now) ∙ ap (λ (l : List ℕ). let made : Pair = (bytes_of Image held, l) in made) (side pair now)
 
-pub settled_durable : (held : Held) (role : Role) → IsSettled held → IsDurable role held
-settled_durable held Image settled pair now = ap (λ (p : Pair). p.0) (settled pair now)
-settled_durable held Side settled pair now = ap (λ (p : Pair). p.1) (settled pair now)
+pub synced_durable : (held : Held) (role : Role) → IsSynced held → IsDurable role held
+synced_durable held Image synced pair now = ap (λ (p : Pair). p.0) (synced pair now)
+synced_durable held Side synced pair now = ap (λ (p : Pair). p.1) (synced pair now)
 
-pub begun_settled : (image side : List ℕ) → IsSettled (settled_at image side)
-begun_settled image side = settled_from (settled_at image side) (λ pair now. leaves_settled _ refl (λ i. refl) pair.0 now.0) (λ pair now. leaves_settled _ refl (λ i. refl) pair.1 now.1)
+pub begun_synced : (image side : List ℕ) → IsSynced (synced_at image side)
+begun_synced image side = synced_from (synced_at image side) (λ pair now. leaves_synced _ refl (λ i. refl) pair.0 now.0) (λ pair now. leaves_synced _ refl (λ i. refl) pair.1 now.1)

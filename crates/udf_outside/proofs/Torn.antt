@@ -66,5 +66,5 @@ leaves_torn old new at n within torn base pending c left =
 pub leaves_self : (content : Content) → Leaves content content.bytes
 leaves_self content = record { no_shorter = omega arith; no_longer = omega arith; same = λ i lt clear. refl }
 
-pub leaves_settled : (content : Content) → content.base ≡ length content.bytes → ((i : ℕ) → content.pending i ≡ false) → (c : List ℕ) → Leaves content c → c ≡ content.bytes
-leaves_settled content base clear c left = ext_get_or 0 c content.bytes (omega (arith, left.no_shorter, left.no_longer, base)) (λ i lt. left.same i lt (clear i))
+pub leaves_synced : (content : Content) → content.base ≡ length content.bytes → ((i : ℕ) → content.pending i ≡ false) → (c : List ℕ) → Leaves content c → c ≡ content.bytes
+leaves_synced content base clear c left = ext_get_or 0 c content.bytes (omega (arith, left.no_shorter, left.no_longer, base)) (λ i lt. left.same i lt (clear i))

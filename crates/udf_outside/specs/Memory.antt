@@ -40,12 +40,12 @@ unasked_file size = record { asked = None; name = None; attached = false; size =
 abbrev pub unasked : ℕ → ℕ → Files
 unasked image side = record { image = unasked_file image; side = unasked_file side }
 
-abbrev pub settled_content : List ℕ → Content
-settled_content bytes = record { bytes = bytes; base = length bytes; pending = λ i. false }
+abbrev pub synced_content : List ℕ → Content
+synced_content bytes = record { bytes = bytes; base = length bytes; pending = λ i. false }
 
 -- these contents of image and side file, at their first moment, with nothing pending
-abbrev pub settled_at : List ℕ → List ℕ → Held
-settled_at image side = record { now = record { image = settled_content image; side = settled_content side }; past = [] }
+abbrev pub synced_at : List ℕ → List ℕ → Held
+synced_at image side = record { now = record { image = synced_content image; side = synced_content side }; past = [] }
 
 -- what the stop spares of a write
 abbrev pub spared_by : Turn → Role → ℕ → ℕ → Option Spared → Option Spared
@@ -76,4 +76,4 @@ pub record SameButFiles (old new : MemBench) : Type 0 where
 -- a bench with these contents, attached to nothing, at its first moment, with nothing pending
 pub record BeginsWith (image side : List ℕ) (bench : MemBench) : Type 0 where
   pub files : files_in bench ≡ unasked (length image) (length side)
-  pub held : held_in bench ≡ settled_at image side
+  pub held : held_in bench ≡ synced_at image side

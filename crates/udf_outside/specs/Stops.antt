@@ -72,8 +72,8 @@ Since z held pair = LeftSince z (held.now ∷ held.past) pair
 abbrev pub IsDurable : Role → Held → Type 0
 IsDurable role held = (pair : Pair) → Now held pair → part_of role pair ≡ bytes_of role held
 
-abbrev pub IsSettled : Held → Type 0
-IsSettled held = (pair : Pair) → Now held pair → pair ≡ pair_of held
+abbrev pub IsSynced : Held → Type 0
+IsSynced held = (pair : Pair) → Now held pair → pair ≡ pair_of held
 
 -- n bytes from an offset
 abbrev pub slice_of : List ℕ → ℕ → ℕ → List ℕ

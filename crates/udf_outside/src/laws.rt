@@ -4,15 +4,15 @@ ghost use Rattle.udf_outside.specs.declared.bench.Role.{Role};
 ghost use Rattle.udf_outside.specs.declared.bench.Role.TheVariants.{Image, Side};
 ghost use Rattle.udf_outside.specs.declared.bench.Failed.{Failed};
 ghost use Rattle.udf_outside.specs.Files.{other};
-ghost use Rattle.udf_outside.specs.Stops.{Held, Pair, part_of, bytes_of, pair_of, Now, Since, moment, IsDurable, IsSettled, Torn, Writes, Syncs, LeavesOnly};
+ghost use Rattle.udf_outside.specs.Stops.{Held, Pair, part_of, bytes_of, pair_of, Now, Since, moment, IsDurable, IsSynced, Torn, Writes, Syncs, LeavesOnly};
 
 /// What reads give is always among the pairs that a stop now may leave, and these are what counts since the present
-/// moment. A bench is settled exactly where both files are durable.
+/// moment. A bench is synced exactly where both files are durable.
 pub fn moments_law()
     ensures seen { (held : Held) → Now held (pair_of held) }
     ensures counts { (held : Held) (z : ℕ) (pair : Pair) → z ≤ moment held → Now held pair → Since z held pair }
     ensures only_now { (held : Held) (pair : Pair) → Since (moment held) held pair → Now held pair }
-    ensures settled { (held : Held) → IsSettled held ↔ (IsDurable Image held × IsDurable Side held) }
+    ensures synced { (held : Held) → IsSynced held ↔ (IsDurable Image held × IsDurable Side held) }
 {}
 
 /// A write, done or failed: each pair that a stop may leave after it comes from one before it, torn in the range. Nothing

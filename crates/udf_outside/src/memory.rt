@@ -6,7 +6,7 @@ ghost use Rattle.udf_outside.specs.Files.{other, resized};
 ghost use Rattle.udf_outside.specs.Ranges.{covers};
 ghost use Rattle.udf_outside.specs.Undo.{undone_in};
 ghost use Rattle.udf_outside.specs.Stops.{is_within, bytes_of, put, after_write, after_sync};
-ghost use Rattle.udf_outside.specs.Memory.{files_in, held_in, script_in, tracked_of, unasked, settled_at, SameButFiles, left_by, spared_by};
+ghost use Rattle.udf_outside.specs.Memory.{files_in, held_in, script_in, tracked_of, unasked, synced_at, SameButFiles, left_by, spared_by};
 ghost use Rattle.udf_outside.specs.Script.{not_begun, writes_of};
 ghost use Rattle.udf_outside.specs.declared.bench.Role.TheVariants.{Image, Side};
 
@@ -72,7 +72,7 @@ fn unasked_slot(alloc: Global, bytes: Sparse) -> MemSlot
 /// A bench with these contents.
 pub(crate) fn bench_of(alloc: Global, image: Sparse, side: Sparse, script: Script) -> MemBench
     ensures files { files_in result ≡ unasked (length image) (length side) }
-    ensures held { held_in result ≡ settled_at image side }
+    ensures held { held_in result ≡ synced_at image side }
     ensures script { script_in result ≡ script }
 {
     MemBench {
@@ -94,7 +94,7 @@ impl MemBench {
         stop: Option<Stop>,
     ) -> MemBench
         ensures files { files_in result ≡ unasked (length image.items) (length side.items) }
-        ensures held { held_in result ≡ settled_at image.items side.items }
+        ensures held { held_in result ≡ synced_at image.items side.items }
         ensures script { script_in result ≡ not_begun fail.items stop }
     {
         bench_of(
@@ -108,7 +108,7 @@ impl MemBench {
     /// A bench with an image of so many zeros and an empty side file, of which no call fails.
     pub fn sparse(alloc: Global, bytes: u64) -> MemBench
         ensures files { files_in result ≡ unasked bytes 0 }
-        ensures held { held_in result ≡ settled_at (replicate bytes 0) [] }
+        ensures held { held_in result ≡ synced_at (replicate bytes 0) [] }
         ensures script { script_in result ≡ not_begun [] None }
     {
         let image = Sparse::zeros(alloc, bytes);
@@ -245,7 +245,7 @@ impl MemBench {
     }
 
     /// Makes a role durable. Without memory all stays.
-    pub(crate) fn settle(&mut self, role: Role) -> Result<(), AllocError>
+    pub(crate) fn make_durable(&mut self, role: Role) -> Result<(), AllocError>
         ensures done { OnOk result (held_in self.new ≡ after_sync role (held_in self.old)) }
         ensures failed { OnErr result (held_in self.new ≡ held_in self.old) }
         ensures files { files_in self.new ≡ files_in self.old }

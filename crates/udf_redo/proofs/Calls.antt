@@ -3,7 +3,7 @@ use Rattle.std.proofs.Common.{◌≡◌, ⊎_elim, ℕ, ◌≤◌, List, length,
 use Rattle.udf_outside.specs.declared.bench.Role.{Role}
 use Rattle.udf_outside.specs.declared.bench.Role.TheVariants.{Image, Side}
 use Rattle.udf_outside.specs.Files.{Files, other, resized, Resizes}
-use Rattle.udf_outside.specs.Stops.{Held, bytes_of, put, IsDurable, IsSettled, after_write, after_sync, moved_on, Writes, Syncs}
+use Rattle.udf_outside.specs.Stops.{Held, bytes_of, put, IsDurable, IsSynced, after_write, after_sync, moved_on, Writes, Syncs}
 use Rattle.udf_outside.proofs.Moments.{settled_from}
 use Rattle.udf_outside.proofs.Runs.{sync_other_durable, synced_durable}
 
@@ -43,13 +43,13 @@ sync_same role which old new (Ok x) syncs = ap (λ (held : Held). bytes_of which
 sync_same role which old new (Err e) syncs = ap (λ (held : Held). bytes_of which held) syncs.failed
 
 -- a sync of the one file that was written
-pub side_settles : (old new : Held) {T E : Type 0} (result : Result T E) → Syncs Side old new result → IsDurable Image old → OnOk result (IsSettled new)
-side_settles old new (Ok x) syncs durable = settled_from new (sync_other_durable Side old new (Ok x) syncs durable) (synced_durable Side old new (Ok x) syncs)
-side_settles old new (Err e) syncs durable = tt
+pub side_syncs : (old new : Held) {T E : Type 0} (result : Result T E) → Syncs Side old new result → IsDurable Image old → OnOk result (IsSynced new)
+side_syncs old new (Ok x) syncs durable = settled_from new (sync_other_durable Side old new (Ok x) syncs durable) (synced_durable Side old new (Ok x) syncs)
+side_syncs old new (Err e) syncs durable = tt
 
-pub image_settles : (old new : Held) {T E : Type 0} (result : Result T E) → Syncs Image old new result → IsDurable Side old → OnOk result (IsSettled new)
-image_settles old new (Ok x) syncs durable = settled_from new (synced_durable Image old new (Ok x) syncs) (sync_other_durable Image old new (Ok x) syncs durable)
-image_settles old new (Err e) syncs durable = tt
+pub image_syncs : (old new : Held) {T E : Type 0} (result : Result T E) → Syncs Image old new result → IsDurable Side old → OnOk result (IsSynced new)
+image_syncs old new (Ok x) syncs durable = settled_from new (synced_durable Image old new (Ok x) syncs) (sync_other_durable Image old new (Ok x) syncs durable)
+image_syncs old new (Err e) syncs durable = tt
 
 pub on_ok : {T E : Type 0} (result : Result T E) (P : Type 0) → P → OnOk result P
 on_ok (Ok x) P is = is

@@ -2,7 +2,7 @@
 use Rattle.std.proofs.Common.{◌≡◌, ◌<◌, ◌≤◌, ℕ, List, [], ◌∷◌, length, drop, take, refl, sym, ◌∙◌, ap, subst, arith, Result}
 use Rattle.std.proofs.lemmas.List.{take-take, length-take-le}
 use Rattle.udf_outside.specs.declared.bench.Role.TheVariants.{Image, Side}
-use Rattle.udf_outside.specs.Stops.{Held, Pair, bytes_of, pair_of, Torn, IsSettled, Writes}
+use Rattle.udf_outside.specs.Stops.{Held, Pair, bytes_of, pair_of, Torn, IsSynced, Writes}
 use Rattle.udf_outside.specs.Run.{Runs}
 use Rattle.udf_outside.proofs.Runs.{runs_start, runs_write}
 use Rattle.udf_redo.specs.Front.{IsShort, BeginsWith, IsGated}
@@ -23,7 +23,7 @@ part0 pair held is = ap (λ (p : Pair). p.0) is
 part1 : (pair : Pair) (held : Held) → pair ≡ pair_of held → pair.1 ≡ bytes_of Side held
 part1 pair held is = ap (λ (p : Pair). p.1) is
 
-module _ (start : Held) (settled : IsSettled start) where
+module _ (start : Held) (settled : IsSynced start) where
   abbrev image : List ℕ
   image = bytes_of Image start
 

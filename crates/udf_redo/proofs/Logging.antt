@@ -3,7 +3,7 @@ use Rattle.std.proofs.Common.{◌≡◌, ◌⊎◌, inl, inr, ⊎_elim, ◌<◌,
 use Rattle.std.proofs.lemmas.Bool.{cases_lt}
 use Rattle.std.proofs.lemmas.List.{drop-take, get_or-take, length-take, length-take-le}
 use Rattle.udf_outside.specs.declared.bench.Role.TheVariants.{Image, Side}
-use Rattle.udf_outside.specs.Stops.{Held, Pair, bytes_of, IsSettled, LeavesOnly}
+use Rattle.udf_outside.specs.Stops.{Held, Pair, bytes_of, IsSynced, LeavesOnly}
 use Rattle.udf_outside.proofs.Runs.{leaves_same, leaves_then, leaves_weaker}
 use Rattle.udf_redo.specs.Log.{name, state_of}
 use Rattle.udf_redo.specs.declared.side.SideState.TheVariants.{Empty}
@@ -57,7 +57,7 @@ pub free_logging : (image : List ℕ) (pair : Pair) → pair.0 ≡ image → IsF
 free_logging image pair is free = ⊎_elim (λ le. short_logging image pair (is, le)) (λ shut. shut_logging image pair is shut) (free_cases pair.1 free)
 
 -- nothing was written yet
-pub quiet_logging : (old new : Held) → new ≡ old → IsSettled old → IsFree (bytes_of Side old) → LeavesOnly old new (IsLogging (bytes_of Image old))
+pub quiet_logging : (old new : Held) → new ≡ old → IsSynced old → IsFree (bytes_of Side old) → LeavesOnly old new (IsLogging (bytes_of Image old))
 quiet_logging old new same settled free =
     leaves_same old new (IsLogging (bytes_of Image old)) same
     (λ pair now. let is = settled pair now in

@@ -1,7 +1,7 @@
 -- The turns of the loops that write the recorded blocks.
 use Rattle.std.proofs.Common.{◌≡◌, ◌≤◌, ℕ, ◌+◌, ◌*◌, List, length, drop, get_or, sym, ◌∙◌, ap, subst, arith, Result, Some, slice_get}
 use Rattle.udf_outside.specs.declared.bench.Role.TheVariants.{Image, Side}
-use Rattle.udf_outside.specs.Stops.{Held, Pair, part_of, bytes_of, pair_of, moment, IsSettled, LeavesOnly, Writes, Syncs}
+use Rattle.udf_outside.specs.Stops.{Held, Pair, part_of, bytes_of, pair_of, moment, IsSynced, LeavesOnly, Writes, Syncs}
 use Rattle.udf_outside.specs.Run.{Runs}
 use Rattle.udf_outside.proofs.Moments.{seen_now, now_counts}
 use Rattle.udf_outside.proofs.Runs.{runs_start, runs_write, runs_sync, runs_quiet, leaves_weaker, leaves_then}
@@ -18,7 +18,7 @@ module _ (start : Held) (log : IsOpenLog (bytes_of Side start) (bytes_of Image s
   abbrev pub Near : Pair → Type 0
   Near = IsNear (bytes_of Side start) (bytes_of Image start)
 
-  pub begin : IsSettled start → Runs start start Near Near
+  pub begin : IsSynced start → Runs start start Near Near
   begin settled =
       runs_start start Near Near (λ pair now. let is = settled pair now in near_start (bytes_of Side start) (bytes_of Image start) log pair (ap (λ (p : Pair). p.0) is) (ap (λ (p : Pair). p.1) is)) (λ pair near. near)
 
@@ -72,7 +72,7 @@ module _ (start : Held) (log : IsOpenLog (bytes_of Side start) (bytes_of Image s
         omega (arith, there.0, there.1)
 
   -- nothing was written yet
-  pub quiet_applying : (new : Held) → IsSettled start → new ≡ start → LeavesOnly start new (IsApplying (bytes_of Side start) (bytes_of Image start))
+  pub quiet_applying : (new : Held) → IsSynced start → new ≡ start → LeavesOnly start new (IsApplying (bytes_of Side start) (bytes_of Image start))
   quiet_applying new settled same = applying new (quiet start new (begin settled) same)
 
 -- all blocks were written, and then the gate is closed

@@ -2,7 +2,7 @@
 ghost use Rattle.std.specs.Prelude.{◌≡◌, ◌/◌, true, OnOk};
 ghost use Rattle.udf_blocks.specs.Planned.{are_below};
 ghost use Rattle.udf_outside.specs.Files.{IsWritable};
-ghost use Rattle.udf_outside.specs.Stops.{bytes_of, part_of, IsSettled, LeavesOnly};
+ghost use Rattle.udf_outside.specs.Stops.{bytes_of, part_of, IsSynced, LeavesOnly};
 ghost use Rattle.udf_outside.specs.declared.bench.Role.TheVariants.{Image, Side};
 ghost use Rattle.udf_redo.specs.Log.{head_in, records_of};
 ghost use Rattle.udf_redo.specs.Settled.{IsOpenLog, applied_to};
@@ -22,7 +22,7 @@ pub fn apply<B: Bench>(bench: &mut B, plan: &Plan, size: u32) -> Result<(), Redo
     requires log { B.tells → IsOpenLog (bytes_of Side (B.held bench.old)) (bytes_of Image (B.held bench.old)) }
     requires size { B.tells → (head_in (bytes_of Side (B.held bench.old))).size ≡ size }
     requires records { B.tells → records_of (bytes_of Side (B.held bench.old)) ≡ plan.now.blocks }
-    requires settled { B.tells → IsSettled (B.held bench.old) }
+    requires synced { B.tells → IsSynced (B.held bench.old) }
     ensures moments { B.tells → LeavesOnly (B.held bench.old) (B.held bench.new)
         (IsApplying (bytes_of Side (B.held bench.old)) (bytes_of Image (B.held bench.old))) }
     ensures same_side { B.tells → LeavesOnly (B.held bench.old) (B.held bench.new) (λ pair. part_of Side pair ≡ bytes_of Side (B.held bench.old)) }
@@ -32,7 +32,7 @@ pub fn apply<B: Bench>(bench: &mut B, plan: &Plan, size: u32) -> Result<(), Redo
         ≡ applied_to (bytes_of Side (B.held bench.old)) (bytes_of Image (B.held bench.old)) }
     ensures side { B.tells → bytes_of Side (B.held bench.new) ≡ bytes_of Side (B.held bench.old) }
     ensures log { B.tells → IsOpenLog (bytes_of Side (B.held bench.old)) (bytes_of Image (B.held bench.new)) }
-    ensures settled { B.tells → OnOk result (IsSettled (B.held bench.new)) }
+    ensures synced { B.tells → OnOk result (IsSynced (B.held bench.new)) }
     ensures files { B.files bench.new ≡ B.files bench.old }
     ensures only_faults { OnlyFaults result }
     ensures cause { HasFault (B.faults bench.old) (B.faults bench.new) result }

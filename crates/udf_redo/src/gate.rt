@@ -1,7 +1,7 @@
 //! The gate of a log: its first byte.
 ghost use Rattle.std.specs.Prelude.{◌≡◌, ◌∷◌, ◌<◌, ◌≤◌, drop, length, OnOk};
 ghost use Rattle.udf_outside.specs.Files.{IsWritable, resized};
-ghost use Rattle.udf_outside.specs.Stops.{bytes_of, IsSettled, LeavesOnly};
+ghost use Rattle.udf_outside.specs.Stops.{bytes_of, IsSynced, LeavesOnly};
 ghost use Rattle.udf_outside.specs.Causes.{HasCause};
 ghost use Rattle.udf_outside.specs.declared.bench.Role.TheVariants.{Image, Side};
 ghost use Rattle.udf_redo.specs.Log.{opened, closed, state_of, head_in, records_of};
@@ -19,12 +19,12 @@ use udf_outside::{Bench, Failed, Role};
 fn set_gate<B: Bench>(bench: &mut B, gate: u8) -> Result<(), Failed>
     requires writable { IsWritable Side (B.files bench.old) }
     requires some { B.tells → 0 < length (bytes_of Side (B.held bench.old)) }
-    requires settled { B.tells → IsSettled (B.held bench.old) }
+    requires synced { B.tells → IsSynced (B.held bench.old) }
     ensures moments { B.tells → LeavesOnly (B.held bench.old) (B.held bench.new)
         (IsGated (bytes_of Image (B.held bench.old)) (drop 1 (bytes_of Side (B.held bench.old)))) }
     ensures side { B.tells → OnOk result (bytes_of Side (B.held bench.new) ≡ gate ∷ drop 1 (bytes_of Side (B.held bench.old))) }
     ensures image { B.tells → bytes_of Image (B.held bench.new) ≡ bytes_of Image (B.held bench.old) }
-    ensures settled { B.tells → OnOk result (IsSettled (B.held bench.new)) }
+    ensures synced { B.tells → OnOk result (IsSynced (B.held bench.new)) }
     ensures files { B.files bench.new ≡ resized Side (B.files bench.new).side.size (B.files bench.old) }
     ensures same_files { 1 ≤ (B.files bench.old).side.size → B.files bench.new ≡ B.files bench.old }
     ensures cause { HasCause (B.faults bench.old) (B.faults bench.new) result }
@@ -37,7 +37,7 @@ fn set_gate<B: Bench>(bench: &mut B, gate: u8) -> Result<(), Failed>
 pub fn open_gate<B: Bench>(bench: &mut B) -> Result<(), RedoStop>
     requires writable { IsWritable Side (B.files bench.old) }
     requires log { B.tells → IsOpenLog (opened (bytes_of Side (B.held bench.old))) (bytes_of Image (B.held bench.old)) }
-    requires settled { B.tells → IsSettled (B.held bench.old) }
+    requires synced { B.tells → IsSynced (B.held bench.old) }
     ensures moments { B.tells → LeavesOnly (B.held bench.old) (B.held bench.new)
         (IsOpening (bytes_of Side (B.held bench.old)) (bytes_of Image (B.held bench.old))) }
     ensures side { B.tells → OnOk result (bytes_of Side (B.held bench.new) ≡ opened (bytes_of Side (B.held bench.old))) }
@@ -45,7 +45,7 @@ pub fn open_gate<B: Bench>(bench: &mut B) -> Result<(), RedoStop>
     ensures head { B.tells → OnOk result (head_in (bytes_of Side (B.held bench.new)) ≡ head_in (bytes_of Side (B.held bench.old))) }
     ensures records { B.tells → OnOk result (records_of (bytes_of Side (B.held bench.new)) ≡ records_of (bytes_of Side (B.held bench.old))) }
     ensures image { B.tells → bytes_of Image (B.held bench.new) ≡ bytes_of Image (B.held bench.old) }
-    ensures settled { B.tells → OnOk result (IsSettled (B.held bench.new)) }
+    ensures synced { B.tells → OnOk result (IsSynced (B.held bench.new)) }
     ensures files { B.files bench.new ≡ resized Side (B.files bench.new).side.size (B.files bench.old) }
     ensures same_files { 1 ≤ (B.files bench.old).side.size → B.files bench.new ≡ B.files bench.old }
     ensures only_faults { OnlyFaults result }
@@ -60,13 +60,13 @@ pub fn close_gate<B: Bench>(bench: &mut B) -> Result<(), RedoStop>
     requires writable { IsWritable Side (B.files bench.old) }
     requires log { B.tells → IsOpenLog (bytes_of Side (B.held bench.old)) (bytes_of Image (B.held bench.old)) }
     requires done { B.tells → applied_to (bytes_of Side (B.held bench.old)) (bytes_of Image (B.held bench.old)) ≡ bytes_of Image (B.held bench.old) }
-    requires settled { B.tells → IsSettled (B.held bench.old) }
+    requires synced { B.tells → IsSynced (B.held bench.old) }
     ensures moments { B.tells → LeavesOnly (B.held bench.old) (B.held bench.new)
         (IsClosing (bytes_of Side (B.held bench.old)) (bytes_of Image (B.held bench.old))) }
     ensures side { B.tells → OnOk result (bytes_of Side (B.held bench.new) ≡ closed (bytes_of Side (B.held bench.old))) }
     ensures closed { B.tells → OnOk result (state_of (bytes_of Side (B.held bench.new)) ≡ Ok Closed) }
     ensures image { B.tells → bytes_of Image (B.held bench.new) ≡ bytes_of Image (B.held bench.old) }
-    ensures settled { B.tells → OnOk result (IsSettled (B.held bench.new)) }
+    ensures synced { B.tells → OnOk result (IsSynced (B.held bench.new)) }
     ensures files { B.files bench.new ≡ resized Side (B.files bench.new).side.size (B.files bench.old) }
     ensures same_files { 1 ≤ (B.files bench.old).side.size → B.files bench.new ≡ B.files bench.old }
     ensures only_faults { OnlyFaults result }

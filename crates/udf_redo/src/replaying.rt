@@ -1,7 +1,7 @@
 //! An open log is replayed.
 ghost use Rattle.std.specs.Prelude.{◌≡◌, ◌≢◌, ◌≤◌, ◌<◌, ◌+◌, ◌*◌, ◌/◌, ◌^◌, true, length, drop, None, OnOk, IfOk, IfErr, IsErrOf};
 ghost use Rattle.udf_outside.specs.Files.{IsAttached, IsWritable};
-ghost use Rattle.udf_outside.specs.Stops.{bytes_of, IsSettled, LeavesOnly, Writes};
+ghost use Rattle.udf_outside.specs.Stops.{bytes_of, IsSynced, LeavesOnly, Writes};
 ghost use Rattle.udf_outside.specs.Causes.{HasCause};
 ghost use Rattle.udf_outside.specs.Reads.{OnlyReads, failed};
 ghost use Rattle.udf_outside.specs.declared.bench.Role.TheVariants.{Image, Side};
@@ -80,7 +80,7 @@ fn replay_records<B: Bench>(
     requires room { length block.old ≡ head.now.size }
     requires log { B.tells → IsOpenLog (bytes_of Side (B.held bench.old)) (bytes_of Image (B.held bench.old)) }
     requires head { B.tells → head_in (bytes_of Side (B.held bench.old)) ≡ head.now }
-    requires settled { B.tells → IsSettled (B.held bench.old) }
+    requires synced { B.tells → IsSynced (B.held bench.old) }
     ensures moments { B.tells → LeavesOnly (B.held bench.old) (B.held bench.new)
         (IsApplying (bytes_of Side (B.held bench.old)) (bytes_of Image (B.held bench.old))) }
     ensures image { B.tells → OnOk result (bytes_of Image (B.held bench.new)
@@ -89,7 +89,7 @@ fn replay_records<B: Bench>(
         ≡ applied_to (bytes_of Side (B.held bench.old)) (bytes_of Image (B.held bench.old)) }
     ensures side { B.tells → bytes_of Side (B.held bench.new) ≡ bytes_of Side (B.held bench.old) }
     ensures log { B.tells → IsOpenLog (bytes_of Side (B.held bench.old)) (bytes_of Image (B.held bench.new)) }
-    ensures settled { B.tells → OnOk result (IsSettled (B.held bench.new)) }
+    ensures synced { B.tells → OnOk result (IsSynced (B.held bench.new)) }
     ensures files { B.files bench.new ≡ B.files bench.old }
     ensures cause { HasCause (B.faults bench.old) (B.faults bench.new) result }
 {
@@ -114,7 +114,7 @@ pub fn replay<B: Bench>(
     requires lawful { is_head head.now ≡ true }
     requires within { log_length head.now ≤ (B.files bench.old).side.size }
     requires log { B.tells → state_of (bytes_of Side (B.held bench.old)) ≡ Ok (Open head.now) }
-    requires settled { B.tells → IsSettled (B.held bench.old) }
+    requires synced { B.tells → IsSynced (B.held bench.old) }
     ensures answer { B.tells → Answers (replay_answer head.now (bytes_of Image (B.held bench.old))) result }
     ensures moments { B.tells → IsOpenLog (bytes_of Side (B.held bench.old)) (bytes_of Image (B.held bench.old))
         → LeavesOnly (B.held bench.old) (B.held bench.new)
@@ -124,7 +124,7 @@ pub fn replay<B: Bench>(
         ≡ applied_to (bytes_of Side (B.held bench.old)) (bytes_of Image (B.held bench.old))) }
     ensures side { B.tells → OnOk result (bytes_of Side (B.held bench.new) ≡ closed (bytes_of Side (B.held bench.old))) }
     ensures closed { B.tells → OnOk result (state_of (bytes_of Side (B.held bench.new)) ≡ Ok Closed) }
-    ensures settled { B.tells → OnOk result (IsSettled (B.held bench.new)) }
+    ensures synced { B.tells → OnOk result (IsSynced (B.held bench.new)) }
     ensures records { IfOk result (λ records. records ≡ head.now.records) }
     ensures files { B.files bench.new ≡ B.files bench.old }
     ensures memory { IsErrOf result Memory → B.held bench.new ≡ B.held bench.old }

@@ -1,7 +1,7 @@
 //! A plan is written as a log behind a closed gate.
 ghost use Rattle.std.specs.Prelude.{◌≡◌, ◌≤◌, ◌<◌, ◌+◌, ◌*◌, ◌/◌, ◌^◌, true, length, OnOk, IfOk, IsErrOf};
 ghost use Rattle.udf_outside.specs.Files.{IsAttached, IsWritable, resized};
-ghost use Rattle.udf_outside.specs.Stops.{bytes_of, IsSettled, LeavesOnly};
+ghost use Rattle.udf_outside.specs.Stops.{bytes_of, IsSynced, LeavesOnly};
 ghost use Rattle.udf_outside.specs.Reads.{OnlyReads, failed};
 ghost use Rattle.udf_outside.specs.declared.bench.Role.TheVariants.{Image, Side};
 ghost use Rattle.udf_redo.specs.Log.{head_in, records_of, opened, state_of};
@@ -34,7 +34,7 @@ pub fn write_log<B: Bench>(
     requires plan { IsLoggable blocks sealed plan.now }
     requires image_blocks { (B.files bench.old).image.size / plan.now.size ≡ blocks }
     requires free { B.tells → IsFree (bytes_of Side (B.held bench.old)) }
-    requires settled { B.tells → IsSettled (B.held bench.old) }
+    requires synced { B.tells → IsSynced (B.held bench.old) }
     ensures moments { B.tells → LeavesOnly (B.held bench.old) (B.held bench.new) (IsLogging (bytes_of Image (B.held bench.old))) }
     ensures closed { B.tells → OnOk result (state_of (bytes_of Side (B.held bench.new)) ≡ Ok Closed) }
     ensures log { B.tells → OnOk result (IsOpenLog (opened (bytes_of Side (B.held bench.new))) (bytes_of Image (B.held bench.old))) }
@@ -42,7 +42,7 @@ pub fn write_log<B: Bench>(
         ≡ head_for plan.now blocks sealed (bytes_of Image (B.held bench.old))) }
     ensures records { B.tells → OnOk result (records_of (bytes_of Side (B.held bench.new)) ≡ plan.now.blocks) }
     ensures image { B.tells → bytes_of Image (B.held bench.new) ≡ bytes_of Image (B.held bench.old) }
-    ensures settled { B.tells → OnOk result (IsSettled (B.held bench.new)) }
+    ensures synced { B.tells → OnOk result (IsSynced (B.held bench.new)) }
     ensures files { B.files bench.new ≡ resized Side (B.files bench.new).side.size (B.files bench.old) }
     ensures memory { IsErrOf result Memory → B.held bench.new ≡ B.held bench.old }
     ensures memory_files { IsErrOf result Memory → B.files bench.new ≡ B.files bench.old }

@@ -2,7 +2,7 @@
 use Rattle.std.proofs.Common.{◌≡◌, ◌⊎◌, inl, inr, ⊎_elim, ◌≤◌, ℕ, zero, suc, List, [], ◌∷◌, ◌++◌, refl, sym, ◌∙◌, ap, subst, Bool, true, false, cond, Option, Some, Result, Ok, Err}
 use Rattle.std.specs.Str.{bytes_eq}
 use Rattle.udf_outside.specs.declared.bench.Role.TheVariants.{Image, Side}
-use Rattle.udf_outside.specs.Stops.{Held, Pair, bytes_of, pair_of, moment, IsSettled, LeavesOnly}
+use Rattle.udf_outside.specs.Stops.{Held, Pair, bytes_of, pair_of, moment, IsSynced, LeavesOnly}
 use Rattle.udf_outside.proofs.Moments.{seen_now, now_counts}
 use Rattle.udf_outside.proofs.Runs.{leaves_weaker, leaves_then}
 use Rattle.udf_volume_model.specs.Size.{size_of}
@@ -203,7 +203,7 @@ repaired_accepted size replayed image repaired = by_opened (writable_opening siz
 module _ (given : Option ℕ) (size replayed : ℕ) (old middle end : Held) (result : Outcome) (sized : size_of given (settled (pair_of old)) ≡ Some size)
     (large : 512 ≤ size) (has : HasBegun given old middle)
     (answer : replaying (pair_of old) ≡ Ok replayed) (moments : CanGoOn (pair_of old) → LeavesOnly old middle (IsSettling (pair_of old)))
-    (image_is : bytes_of Image middle ≡ settled (pair_of old)) (free : IsFree (bytes_of Side middle)) (rests : IsSettled middle)
+    (image_is : bytes_of Image middle ≡ settled (pair_of old)) (free : IsFree (bytes_of Side middle)) (rests : IsSynced middle)
     (mends : Mends size replayed middle end result) where
   can : CanGoOn (pair_of old)
   can = can_go (bytes_of Image old) (bytes_of Side old) replayed answer
@@ -239,14 +239,14 @@ module _ (given : Option ℕ) (size replayed : ℕ) (old middle end : Held) (res
         accepted = ap (λ (found : Option ℕ). accepted_by found (bytes_of Image end)) kept ∙ ap (is_accepted size) made ∙ still_accepted size j large accepted;
         unbroken = ap (λ (found : Option ℕ). unbroken_by found (bytes_of Image end)) kept ∙ ap (is_unbroken size) made ∙ (law size j large accepted).rules;
         side = is.side;
-        settled = is.settled;
+        synced = is.synced;
       }
 
   replayed_to : end ≡ middle → IsReplayed (pair_of old) end
   replayed_to same = record {
     holds = ap (λ (h : Held). bytes_of Image h) same ∙ image_is;
     side = subst (λ (h : Held). IsFree (bytes_of Side h)) (sym same) free;
-    settled = subst (λ (h : Held). IsSettled h) (sym same) rests;
+    synced = subst (λ (h : Held). IsSynced h) (sym same) rests;
   }
 
   pub repairs_mended : Repairs given old end result
@@ -274,7 +274,7 @@ module _ (given : Option ℕ) (size replayed : ℕ) (old middle end : Held) (res
 -- No block size: `middle` is after the replay, and the rest reads alone.
 module _ (given : Option ℕ) (replayed : ℕ) (old middle : Held) (result : Outcome) (has : HasBegun given old middle)
     (answer : replaying (pair_of old) ≡ Ok replayed) (image_is : bytes_of Image middle ≡ settled (pair_of old)) (free : IsFree (bytes_of Side middle))
-    (rests : IsSettled middle) (why : LayerStop) (sizes : Sizes given (settled (pair_of old)) (Err why)) (is : HasEnded result → result ≡ refused_size why) where
+    (rests : IsSynced middle) (why : LayerStop) (sizes : Sizes given (settled (pair_of old)) (Err why)) (is : HasEnded result → result ≡ refused_size why) where
   abbrev j : List ℕ
   j = settled (pair_of old)
 
@@ -290,7 +290,7 @@ module _ (given : Option ℕ) (replayed : ℕ) (old middle : Held) (result : Out
   not_repaired_unsized size_stop.Memory h = h
 
   stays_replayed : IsReplayed (pair_of old) middle
-  stays_replayed = record { holds = image_is; side = free; settled = rests }
+  stays_replayed = record { holds = image_is; side = free; synced = rests }
 
   pub repairs_unsized : Repairs given old middle result
   repairs_unsized = record {

@@ -4,7 +4,7 @@ use Rattle.std.proofs.lemmas.List.{length-map}
 use Rattle.std.proofs.lemmas.Bool.{eqb-true}
 use Rattle.udf_model.specs.Image.{block_of, blocks_in}
 use Rattle.udf_outside.specs.declared.bench.Role.TheVariants.{Image, Side}
-use Rattle.udf_outside.specs.Stops.{Held, Pair, bytes_of, pair_of, IsSettled, LeavesOnly}
+use Rattle.udf_outside.specs.Stops.{Held, Pair, bytes_of, pair_of, IsSynced, LeavesOnly}
 use Rattle.udf_outside.proofs.Runs.{leaves_same}
 use Rattle.udf_volume_model.specs.Kept as model
 use Rattle.udf_volume_model.specs.Kept.{kept_sequence_of}
@@ -159,7 +159,7 @@ ended_repaired result = by_ending (ending_of result) where
   by_ending Failed h = absurd h
 
 -- nothing was written
-module _ (size : ℕ) (old new : Held) (settled : IsSettled old) (free : IsFree (bytes_of Side old)) (same : new ≡ old) where
+module _ (size : ℕ) (old new : Held) (settled : IsSynced old) (free : IsFree (bytes_of Side old)) (same : new ≡ old) where
   pub quiet : (after : List ℕ) → LeavesOnly old new (IsMending size (bytes_of Image old) after)
   quiet after =
       leaves_same old new (IsMending size (bytes_of Image old) after) same
@@ -168,7 +168,7 @@ module _ (size : ℕ) (old new : Held) (settled : IsSettled old) (free : IsFree 
 
   pub mended_still : (after : List ℕ) → bytes_of Image old ≡ after → IsMended after new
   mended_still after is =
-      subst (λ (held : Held). IsMended after held) (sym same) (record { holds = is; side = free; settled = settled })
+      subst (λ (held : Held). IsMended after held) (sym same) (record { holds = is; side = free; synced = settled })
 
   module _ (replayed : ℕ) (result : Outcome) where
     -- a fault or want of memory came

@@ -1,7 +1,7 @@
 -- What a stop leaves of a repair is safe.
 use Rattle.std.proofs.Common.{◌≡◌, ◌⊎◌, inl, inr, ⊎_elim, ◌≤◌, ℕ, Option, Some, List, length, get_or, refl, sym, ◌∙◌, ap, subst, Result, Ok, Err}
 use Rattle.udf_outside.specs.declared.bench.Role.TheVariants.{Image, Side}
-use Rattle.udf_outside.specs.Stops.{Held, Pair, bytes_of, pair_of, IsSettled, LeavesOnly}
+use Rattle.udf_outside.specs.Stops.{Held, Pair, bytes_of, pair_of, IsSynced, LeavesOnly}
 use Rattle.udf_outside.proofs.Runs.{leaves_same, leaves_weaker}
 use Rattle.udf_volume_model.specs.Opened.{plan_of}
 use Rattle.udf_repair_model.specs.Accepted.{mend}
@@ -101,7 +101,7 @@ module _ (given : Option ℕ) (size : ℕ) (start : Pair) (sized : size_of given
       }
 
 -- nothing was written
-module _ (old new : Held) (rests : IsSettled old) (same : new ≡ old) where
+module _ (old new : Held) (rests : IsSynced old) (same : new ≡ old) where
   pub safe_rest : (given : Option ℕ) → LeavesOnly old new (IsSafe given (pair_of old))
   safe_rest given =
       leaves_same old new (IsSafe given (pair_of old)) same
@@ -118,14 +118,14 @@ pub record HasBegun (given : Option ℕ) (old middle : Held) : Type 0 where
   pub stands : LeavesOnly old middle (λ pair. settled pair ≡ settled (pair_of old))
   pub still : (IsOpenLog (bytes_of Side old) (bytes_of Image old) → ⊥) → middle ≡ old
 
-pub unbegun : (given : Option ℕ) (old middle : Held) → IsSettled old → middle ≡ old → HasBegun given old middle
+pub unbegun : (given : Option ℕ) (old middle : Held) → IsSynced old → middle ≡ old → HasBegun given old middle
 unbegun given old middle rests same = record {
   safe = safe_rest old middle rests same given;
   stands = stands_rest old middle rests same;
   still = λ none. same;
 }
 
-pub begun : (given : Option ℕ) (old middle : Held) → IsSettled old → (CanGoOn (pair_of old) → LeavesOnly old middle (IsSettling (pair_of old)))
+pub begun : (given : Option ℕ) (old middle : Held) → IsSynced old → (CanGoOn (pair_of old) → LeavesOnly old middle (IsSettling (pair_of old)))
     → ((IsOpenLog (bytes_of Side old) (bytes_of Image old) → ⊥) → middle ≡ old) → HasBegun given old middle
 begun given old middle rests moments still = by_answer (replaying (pair_of old)) refl where
   by_answer : (answer : Result ℕ RedoStop) → replaying (pair_of old) ≡ answer → HasBegun given old middle

@@ -4,7 +4,7 @@ use Rattle.std.specs.Str.{bytes_eq}
 use Rattle.std.proofs.lemmas.Bool.{cond-true, and_parts, eqb-true}
 use Rattle.udf_model.specs.Image.{blocks_in}
 use Rattle.udf_outside.specs.declared.bench.Role.TheVariants.{Image, Side}
-use Rattle.udf_outside.specs.Stops.{Held, Pair, bytes_of, pair_of, IsSettled, LeavesOnly}
+use Rattle.udf_outside.specs.Stops.{Held, Pair, bytes_of, pair_of, IsSynced, LeavesOnly}
 use Rattle.udf_outside.proofs.Runs.{leaves_same, leaves_weaker}
 use Rattle.udf_redo.specs.declared.head.LogHead.{LogHead}
 use Rattle.udf_redo.specs.declared.side.SideState.{SideState}
@@ -105,7 +105,7 @@ replays_log image side log = (
 )
 
 -- nothing was written
-pub rests : (old new : Held) → IsSettled old → new ≡ old → CanGoOn (pair_of old) → LeavesOnly old new (IsSettling (pair_of old))
+pub rests : (old new : Held) → IsSynced old → new ≡ old → CanGoOn (pair_of old) → LeavesOnly old new (IsSettling (pair_of old))
 rests old new settled same goes_on =
     leaves_same old new (IsSettling (pair_of old)) same
     (λ pair now. subst (λ (p : Pair). IsSettling (pair_of old) p) (sym (settled pair now)) (record {

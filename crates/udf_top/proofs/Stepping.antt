@@ -1,7 +1,7 @@
 -- What the steps of writing a plan leave of the files.
 use Rattle.std.proofs.Common.{◌≡◌, inl, inr, ⊎_elim, ◌<◌, ℕ, List, length, get_or, sym, ◌∙◌, ap, subst, Result, Ok, Err, OnOk}
 use Rattle.udf_outside.specs.declared.bench.Role.TheVariants.{Image, Side}
-use Rattle.udf_outside.specs.Stops.{Held, Pair, bytes_of, pair_of, moment, IsSettled, LeavesOnly}
+use Rattle.udf_outside.specs.Stops.{Held, Pair, bytes_of, pair_of, moment, IsSynced, LeavesOnly}
 use Rattle.udf_outside.proofs.Moments.{seen_now, now_counts}
 use Rattle.udf_outside.proofs.Runs.{leaves_weaker, leaves_then}
 use Rattle.udf_volume_model.specs.Opened.{plan_of}
@@ -154,6 +154,6 @@ module _ (size : ℕ) (after : List ℕ) (start logged : Held) (is : IsWritten s
         (leaves_weaker put end (IsClosing (bytes_of Side put) (bytes_of Image put)) Mending (closing size image after (pair_of put) (done ∙ open_applied) here) closes)
 
 pub done_on : {T E : Type 0} (result : Result T E) (after : List ℕ) (end : Held) → bytes_of Image end ≡ after
-    → OnOk result (state_of (bytes_of Side end) ≡ Ok Closed) → OnOk result (IsSettled end) → OnOk result (IsMended after end)
-done_on (Ok x) after end holds closed settled = record { holds = holds; side = inr closed; settled = settled }
-done_on (Err e) after end holds closed settled = tt
+    → OnOk result (state_of (bytes_of Side end) ≡ Ok Closed) → OnOk result (IsSynced end) → OnOk result (IsMended after end)
+done_on (Ok x) after end holds closed synced = record { holds = holds; side = inr closed; synced = settled }
+done_on (Err e) after end holds closed synced = tt

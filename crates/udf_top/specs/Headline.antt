@@ -1,7 +1,7 @@
 -- What a repair promises of its files, from the start of the run to its end.
 use Rattle.std.specs.Prelude.{◌≡◌, ◌⊎◌, ℕ, true, Option, Some, None, length, slice_index}
 use Rattle.udf_outside.specs.declared.bench.Role.TheVariants.{Image, Side}
-use Rattle.udf_outside.specs.Stops.{Held, Pair, bytes_of, pair_of, IsSettled, LeavesOnly}
+use Rattle.udf_outside.specs.Stops.{Held, Pair, bytes_of, pair_of, IsSynced, LeavesOnly}
 use Rattle.udf_volume_model.specs.Opened.{plan_of}
 use Rattle.udf_volume_model.specs.Size.{size_of}
 use Rattle.udf_repair_model.specs.Sized.{is_accepted_as, is_unbroken_as}
@@ -38,13 +38,13 @@ pub record IsDone (given : Option ℕ) (start : Pair) (end : Held) : Type 0 wher
   pub accepted : is_accepted_as given (bytes_of Image end) ≡ true
   pub unbroken : is_unbroken_as given (bytes_of Image end) ≡ true
   pub side : IsFree (bytes_of Side end)
-  pub settled : IsSettled end
+  pub synced : IsSynced end
 
 -- The files after a run that at most replayed a log: the image is the settled one, no log is open, and nothing is pending.
 pub record IsReplayed (start : Pair) (end : Held) : Type 0 where
   pub holds : bytes_of Image end ≡ settled start
   pub side : IsFree (bytes_of Side end)
-  pub settled : IsSettled end
+  pub synced : IsSynced end
 
 -- From the start `old` to the end `new`, over files that are told, at the block size that is given, or else the one found in
 -- the settled image:

@@ -1,7 +1,7 @@
 -- What the steps of a repair leave of its files.
 use Rattle.std.specs.Prelude.{◌≡◌, ◌⊎◌, ℕ, true, List, ◌++◌, length, Option, Some, Result, Ok, Err}
 use Rattle.udf_outside.specs.declared.bench.Role.TheVariants.{Image, Side}
-use Rattle.udf_outside.specs.Stops.{Held, Pair, bytes_of, IsSettled, LeavesOnly}
+use Rattle.udf_outside.specs.Stops.{Held, Pair, bytes_of, IsSynced, LeavesOnly}
 use Rattle.udf_volume_model.specs.Opened.{plan_of}
 use Rattle.udf_repair_model.specs.Accepted.{mend, is_unbroken}
 use Rattle.udf_volume.specs.declared.missing.LayerStop.{LayerStop}
@@ -37,7 +37,7 @@ pub record IsMending (size : ℕ) (image after : List ℕ) (pair : Pair) : Type 
 pub record IsMended (after : List ℕ) (end : Held) : Type 0 where
   pub holds : bytes_of Image end ≡ after
   pub side : IsFree (bytes_of Side end)
-  pub settled : IsSettled end
+  pub synced : IsSynced end
 
 -- what an inspection of an image answers, unless a fault or want of memory came
 abbrev pub Inspects : ℕ → List ℕ → Result Inspected LayerStop → Type 0

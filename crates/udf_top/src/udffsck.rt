@@ -1,6 +1,6 @@
 //! `udffsck`, the checker and repairer.
 ghost use Rattle.std.specs.Prelude.{◌≡◌, ◌++◌, ℕ, List, true, false, Some, None, Ok, Err, map, string_bytes, IfSome};
-ghost use Rattle.udf_outside.specs.Stops.{pair_of, IsSettled};
+ghost use Rattle.udf_outside.specs.Stops.{pair_of, IsSynced};
 ghost use Rattle.udf_outside.specs.Causes.{Rose};
 ghost use Rattle.udf_words.specs.declared.cause.Cause.{Cause};
 ghost use Rattle.udf_volume.specs.declared.missing.Missing.{Missing};
@@ -42,7 +42,7 @@ fn repair_beside<B: Bench, O: Sink>(
     requires image { (B.files bench.old).image.asked ≡ None }
     requires side { (B.files bench.old).side.asked ≡ None }
     requires given { IfSome given (λ size. is_size size ≡ true) }
-    requires settled { B.tells → IsSettled (B.held bench.old) }
+    requires synced { B.tells → IsSynced (B.held bench.old) }
     ensures outcome { B.tells → HasEnded result
         → result ≡ outcome_beside (side_seen (Work.Repair named.entry) medium.now) given medium.now (pair_of (B.held bench.old)) }
     ensures said { B.tells → (before : List ℕ) → O.told out.old ≡ Some before → Says (O.told out.new) before
@@ -81,7 +81,7 @@ pub fn run_udffsck<B: Bench, O: Sink>(
 ) -> Outcome
     requires image { (B.files bench.old).image.asked ≡ None }
     requires side { (B.files bench.old).side.asked ≡ None }
-    requires settled { B.tells → IsSettled (B.held bench.old) }
+    requires synced { B.tells → IsSynced (B.held bench.old) }
 
     // Where the bench tells its bytes, the outcome is the stated one, unless a fault or want of memory came.
     ensures outcome { B.tells → HasEnded result → result ≡ outcome_of (map string_bytes words.now) (pair_of (B.held bench.old)) }

@@ -115,7 +115,7 @@ impl Bench for MemBench {
     {
         let turn = self.script.turn();
         let found = if turn == Turn::Works {
-            self.settle(role)
+            self.make_durable(role)
         } else {
             Ok(())
         };

@@ -4,8 +4,8 @@
 ghost use Rattle.std.specs.Prelude.{◌≡◌, [], length, IsTrue, ◌↔◌, IfOk};
 ghost use Rattle.udf_outside.specs.declared.bench.Role.{Role};
 ghost use Rattle.udf_outside.specs.declared.bench.Role.TheVariants.{Image, Side};
-ghost use Rattle.udf_outside.specs.Stops.{content_of, bytes_of, pair_of, Now, IsSettled};
-ghost use Rattle.udf_outside.specs.Memory.{files_in, held_in, script_in, unasked, settled_at, tracked_of, BeginsWith};
+ghost use Rattle.udf_outside.specs.Stops.{content_of, bytes_of, pair_of, Now, IsSynced};
+ghost use Rattle.udf_outside.specs.Memory.{files_in, held_in, script_in, unasked, synced_at, tracked_of, BeginsWith};
 ghost use Rattle.udf_outside.specs.Refill.{Refills, is_spared, spared_range};
 ghost use Rattle.udf_outside.specs.Script.{not_begun};
 
@@ -74,7 +74,7 @@ impl MemBench {
             (is_spared (spared_range role (script_in self).spared)) (bytes_of role (held_in self)) (bytes_of role (held_in bench))) }
         ensures now { IfOk result (λ bench. Now (held_in self) (pair_of (held_in bench))) }
         ensures begins { IfOk result (λ bench. BeginsWith (bytes_of Image (held_in bench)) (bytes_of Side (held_in bench)) bench) }
-        ensures settled { IfOk result (λ bench. IsSettled (held_in bench)) }
+        ensures synced { IfOk result (λ bench. IsSynced (held_in bench)) }
         ensures script { IfOk result (λ bench. script_in bench ≡ not_begun [] None) }
     {
         let (alloc, image, side, script) = self.into_parts();

@@ -1,7 +1,7 @@
 //! The second half of a repair: what breaks the rules is found and told, and the difference is written through the log.
 ghost use Rattle.std.specs.Prelude.{◌≡◌, ◌≤◌, ◌*◌, ◌/◌, ℕ, List, [], length, Some, IfOk, OnOk, IsErrOf, Ok, true};
 ghost use Rattle.udf_outside.specs.Files.{IsAttached, IsWritable};
-ghost use Rattle.udf_outside.specs.Stops.{bytes_of, IsSettled, LeavesOnly};
+ghost use Rattle.udf_outside.specs.Stops.{bytes_of, IsSynced, LeavesOnly};
 ghost use Rattle.udf_outside.specs.Causes.{Rose};
 ghost use Rattle.udf_outside.specs.Reads.{OnlyReads};
 ghost use Rattle.udf_outside.specs.declared.bench.Role.TheVariants.{Image, Side};
@@ -85,7 +85,7 @@ fn write_plan<B: Bench>(
     requires some { 1 ≤ length plan.now.blocks }
     requires lawful { IsPlanFor volume.now plan.now }
     requires free { B.tells → IsFree (bytes_of Side (B.held bench.old)) }
-    requires settled { B.tells → IsSettled (B.held bench.old) }
+    requires synced { B.tells → IsSynced (B.held bench.old) }
     ensures moments { B.tells → (after : List ℕ) → IsRewrite volume.now.size (bytes_of Image (B.held bench.old)) after
         → plan.now.blocks ≡ plan_of volume.now.size (bytes_of Image (B.held bench.old)) after
         → LeavesOnly (B.held bench.old) (B.held bench.new) (IsMending volume.now.size (bytes_of Image (B.held bench.old)) after) }
@@ -129,7 +129,7 @@ fn write<B: Bench>(
     requires bounded { IsBounded volume.now.size ((B.files bench.old).image.size / volume.now.size) volume.now }
     requires lawful { IsPlanFor volume.now plan.now }
     requires free { B.tells → IsFree (bytes_of Side (B.held bench.old)) }
-    requires settled { B.tells → IsSettled (B.held bench.old) }
+    requires synced { B.tells → IsSynced (B.held bench.old) }
     ensures written { HasEnded result → result ≡ Outcome.Repaired replayed (length plan.now.blocks) }
     ensures moments { B.tells → (after : List ℕ) → IsRewrite volume.now.size (bytes_of Image (B.held bench.old)) after
         → plan.now.blocks ≡ plan_of volume.now.size (bytes_of Image (B.held bench.old)) after
@@ -173,7 +173,7 @@ fn mend_broken<B: Bench, O: Sink>(
     requires findings { B.tells → found.now.findings ≡ findings_in found.now.volume.size (bytes_of Image (B.held bench.old)) }
     requires broken { 1 ≤ length found.now.findings }
     requires free { B.tells → IsFree (bytes_of Side (B.held bench.old)) }
-    requires settled { B.tells → IsSettled (B.held bench.old) }
+    requires synced { B.tells → IsSynced (B.held bench.old) }
     ensures mends { B.tells → Mends found.now.volume.size replayed (B.held bench.old) (B.held bench.new) result }
     ensures said { B.tells → (before : List ℕ) → O.told out.old ≡ Some before
         → Says (O.told out.new) before (mend_said found.now.volume.size medium.now (bytes_of Image (B.held bench.old))) result }
@@ -228,7 +228,7 @@ pub(crate) fn mend<B: Bench, O: Sink>(
     requires length { length ≡ (B.files bench.old).image.size }
     requires size { is_size size ≡ true }
     requires free { B.tells → IsFree (bytes_of Side (B.held bench.old)) }
-    requires settled { B.tells → IsSettled (B.held bench.old) }
+    requires synced { B.tells → IsSynced (B.held bench.old) }
     ensures mends { B.tells → Mends size replayed (B.held bench.old) (B.held bench.new) result }
     ensures said { B.tells → (before : List ℕ) → O.told out.old ≡ Some before
         → Says (O.told out.new) before (mend_said size medium.now (bytes_of Image (B.held bench.old))) result }

@@ -1,6 +1,6 @@
 //! A repair: `udffsck -p`.
 ghost use Rattle.std.specs.Prelude.{◌≡◌, ◌≤◌, ℕ, List, Some, None, IfSome, true};
-ghost use Rattle.udf_outside.specs.Stops.{pair_of, IsSettled};
+ghost use Rattle.udf_outside.specs.Stops.{pair_of, IsSynced};
 ghost use Rattle.udf_outside.specs.Causes.{Rose};
 ghost use Rattle.udf_outside.specs.declared.bench.Access.TheVariants.{Write};
 ghost use Rattle.udf_model.specs.Size.{is_size};
@@ -70,7 +70,7 @@ pub(crate) fn repair<B: Bench, O: Sink>(
     requires image { (B.files bench.old).image.asked ≡ None }
     requires side { (B.files bench.old).side.asked ≡ None }
     requires given { IfSome given (λ size. is_size size ≡ true) }
-    requires settled { B.tells → IsSettled (B.held bench.old) }
+    requires synced { B.tells → IsSynced (B.held bench.old) }
     ensures outcome { B.tells → HasEnded result → result ≡ repair_of given (pair_of (B.held bench.old)) }
     ensures said { B.tells → (before : List ℕ) → O.told out.old ≡ Some before
         → Says (O.told out.new) before (repair_said given medium.now side.now (pair_of (B.held bench.old))) result }

@@ -1,7 +1,7 @@
 //! A repair begins: both files are attached, and what an earlier run began is ended.
 ghost use Rattle.std.specs.Prelude.{◌≡◌, ◌⊎◌, IfOk, IfSome, OnOk, IsErrOf, Some, None};
 ghost use Rattle.udf_outside.specs.Files.{IsWritable};
-ghost use Rattle.udf_outside.specs.Stops.{bytes_of, pair_of, IsSettled, LeavesOnly};
+ghost use Rattle.udf_outside.specs.Stops.{bytes_of, pair_of, IsSynced, LeavesOnly};
 ghost use Rattle.udf_outside.specs.Causes.{HasCause};
 ghost use Rattle.udf_outside.specs.declared.bench.Role.TheVariants.{Image, Side};
 ghost use Rattle.udf_outside.specs.declared.bench.Access.TheVariants.{Write, Create};
@@ -59,11 +59,11 @@ pub(crate) fn settle<B: Bench>(
     requires side { IsWritable Side (B.files bench.old) }
     requires image_length { lengths.image ≡ (B.files bench.old).image.size }
     requires side_length { lengths.side ≡ (B.files bench.old).side.size }
-    requires settled { B.tells → IsSettled (B.held bench.old) }
+    requires synced { B.tells → IsSynced (B.held bench.old) }
     ensures answer { B.tells → Answers (replaying (pair_of (B.held bench.old))) result }
     ensures image { B.tells → OnOk result (bytes_of Image (B.held bench.new) ≡ settled_image (pair_of (B.held bench.old))) }
     ensures free { B.tells → OnOk result (IsFree (bytes_of Side (B.held bench.new))) }
-    ensures settled { B.tells → OnOk result (IsSettled (B.held bench.new)) }
+    ensures synced { B.tells → OnOk result (IsSynced (B.held bench.new)) }
     ensures moments { B.tells → CanGoOn (pair_of (B.held bench.old))
         → LeavesOnly (B.held bench.old) (B.held bench.new) (IsSettling (pair_of (B.held bench.old))) }
     ensures still { B.tells → (IsOpenLog (bytes_of Side (B.held bench.old)) (bytes_of Image (B.held bench.old)) → ⊥)

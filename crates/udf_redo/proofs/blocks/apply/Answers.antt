@@ -2,12 +2,12 @@ use Rattle.std.proofs.Common.{◌≡◌, ◌≤◌, ◌+◌, ◌*◌, List, ℕ,
 use Rattle.udf_outside.specs.declared.bench.Role.TheVariants.{Image, Side}
 use Rattle.udf_outside.specs.Files.{Files, IsAttached}
 use Rattle.udf_outside.specs.Stops.{bytes_of}
-use Rattle.udf_outside.proofs.Moments.{settled_durable}
+use Rattle.udf_outside.proofs.Moments.{synced_durable}
 use Rattle.udf_outside.proofs.Runs.{write_other_durable}
 use Rattle.udf_redo.specs.Log.{Edit}
 use Rattle.udf_redo.specs.Log.{head_in}
 use Rattle.udf_redo.specs.Settled.{applied}
-use Rattle.udf_redo.proofs.Calls.{write_other, write_puts, sync_same, image_settles, image_kept}
+use Rattle.udf_redo.proofs.Calls.{write_other, write_puts, sync_same, image_syncs, image_kept}
 use Rattle.udf_redo.proofs.Writing.{edit_at}
 use Rattle.udf_redo.proofs.Applying.{written, all_written, none_written}
 use Rattle.udf_redo.proofs.Turns.{begin, block_turn, synced, applying, keeps_side, near_now, log_now}
@@ -21,8 +21,8 @@ loop-i-init g c =
       faults = omega arith;
       image = λ tells. none_written (bytes_of Image start) c.args.size c.args.plan.now.blocks;
       side = λ tells. refl;
-      durable = λ tells. settled_durable start Side (c.requires.settled tells);
-      runs = λ tells. begin start (c.requires.log tells) (c.requires.settled tells);
+      durable = λ tells. synced_durable start Side (c.requires.synced tells);
+      runs = λ tells. begin start (c.requires.log tells) (c.requires.synced tells);
     }
 
 pub write_at-requires-clause-within : goal.write_at-requires-clause-within
@@ -223,5 +223,5 @@ returns-clause-image g c tells =
     ∙ all_written image c.args.size c.args.plan.now.blocks c.loop-i.i (bytes_of Image (g.B.Bench.held c.loop-i.bench)) (omega arith) (c.loop-i.invariant.image tells)
     ∙ ap (λ (n : ℕ). applied n c.args.plan.now.blocks image) (sym (c.requires.size tells)) ∙ ap (λ (q : List Edit). applied (head_in side).size q image) (sym (c.requires.records tells))
 
-pub returns-clause-settled : goal.returns-clause-settled
-returns-clause-settled g c tells = image_settles _ _ (Ok c.in_ok-sync.field-0) (c.in_ok-sync.ensures.held tells) (c.loop-i.invariant.durable tells)
+pub returns-clause-synced : goal.returns-clause-synced
+returns-clause-synced g c tells = image_syncs _ _ (Ok c.in_ok-sync.field-0) (c.in_ok-sync.ensures.held tells) (c.loop-i.invariant.durable tells)

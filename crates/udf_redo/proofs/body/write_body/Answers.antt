@@ -5,11 +5,11 @@ use Rattle.std.proofs.lemmas.List.{take_all}
 use Rattle.udf_outside.specs.Stops.{Pair, bytes_of, put}
 use Rattle.udf_outside.specs.declared.bench.Role.TheVariants.{Image, Side}
 use Rattle.udf_outside.proofs.Runs.{runs_sync, write_other_durable}
-use Rattle.udf_outside.proofs.Moments.{settled_durable}
+use Rattle.udf_outside.proofs.Moments.{synced_durable}
 use Rattle.udf_redo.specs.Log.{Edit}
 use Rattle.udf_redo.specs.Log.{head_bytes, record_bytes}
 use Rattle.udf_redo.specs.Front.{BeginsWith}
-use Rattle.udf_redo.proofs.Calls.{write_other, write_puts, on_ok, sync_same, side_settles}
+use Rattle.udf_redo.proofs.Calls.{write_other, write_puts, on_ok, sync_same, side_syncs}
 use Rattle.udf_redo.proofs.Fronts.{behind_begins, behind_turn}
 use Rattle.udf_redo.proofs.Writing.{body_turn, body_length, body_begins, body_starts, edit_at, still_writable}
 use Rattle.udf_redo.proofs.body.write_body.Goals as goal
@@ -17,7 +17,7 @@ use Rattle.udf_redo.proofs.body.write_body.Goals as goal
 pub returns-in_err-write_at-clause-moments : goal.returns-in_err-write_at-clause-moments
 returns-in_err-write_at-clause-moments g c tells =
     let start = g.B.Bench.held c.args.bench.now in
-    let settled = c.requires.settled tells in
+    let settled = c.requires.synced tells in
     let long : 9 ≤ length (bytes_of Side start) = omega (arith, g.met.B.Bench.sizes c.args.bench.now Side tells c.requires.writable.0, c.requires.long) in
     (behind_turn start settled 9 long start _ 9 _ _ (behind_begins start settled 9 long) (omega arith) long (c.write_at.ensures.held tells)).leaves
 
@@ -37,9 +37,9 @@ loop-i-init g c =
       image = λ tells. write_other Side 9 _ _ _ _ (c.write_at.ensures.held tells);
       side = λ tells. write_puts Side 9 _ _ _ (Ok c.in_ok-write_at.field-0) (c.in_ok-write_at.ensures.held tells)
           ∙ ap (λ (l : List ℕ). put (bytes_of Side start) 9 l) c.bytes.ensures ∙ body_starts (bytes_of Side start) (head_bytes c.args.head.now) c.args.plan.now.blocks;
-      durable = λ tells. write_other_durable Side 9 _ start _ _ (c.write_at.ensures.held tells) (settled_durable start Image (c.requires.settled tells));
+      durable = λ tells. write_other_durable Side 9 _ start _ _ (c.write_at.ensures.held tells) (synced_durable start Image (c.requires.synced tells));
       runs = λ tells.
-          let settled = c.requires.settled tells in
+          let settled = c.requires.synced tells in
           let long : 9 ≤ length (bytes_of Side start) = omega (arith, g.met.B.Bench.sizes c.args.bench.now Side tells c.requires.writable.0, c.requires.long) in
           behind_turn start settled 9 long start _ 9 _ _ (behind_begins start settled 9 long) (omega arith) long (c.write_at.ensures.held tells);
     }
@@ -47,7 +47,7 @@ loop-i-init g c =
 pub returns-in_err-write_at-2-clause-moments : goal.returns-in_err-write_at-2-clause-moments
 returns-in_err-write_at-2-clause-moments g c tells =
     let start = g.B.Bench.held c.args.bench.now in
-    let settled = c.requires.settled tells in
+    let settled = c.requires.synced tells in
     let long : 9 ≤ length (bytes_of Side start) = omega (arith, g.met.B.Bench.sizes c.args.bench.now Side tells c.requires.writable.0, c.requires.long) in
     let writable = still_writable (g.B.Bench.files c.loop-i.bench) (g.B.Bench.files c.args.bench.now) c.loop-i.invariant.files c.requires.writable in
     let place : c.place-at.result ≤ length (bytes_of Side (g.B.Bench.held c.loop-i.bench)) = omega (arith, g.met.B.Bench.sizes c.loop-i.bench Side tells writable.0, c.loop-i.invariant.within, c.place-at.ensures) in
@@ -59,7 +59,7 @@ returns-in_err-write_at-2-clause-image g c tells = write_other Side _ _ _ _ _ (c
 pub returns-in_err-write_at-3-clause-moments : goal.returns-in_err-write_at-3-clause-moments
 returns-in_err-write_at-3-clause-moments g c tells =
     let start = g.B.Bench.held c.args.bench.now in
-    let settled = c.requires.settled tells in
+    let settled = c.requires.synced tells in
     let long : 9 ≤ length (bytes_of Side start) = omega (arith, g.met.B.Bench.sizes c.args.bench.now Side tells c.requires.writable.0, c.requires.long) in
     let writable = still_writable (g.B.Bench.files c.loop-i.bench) (g.B.Bench.files c.args.bench.now) c.loop-i.invariant.files c.requires.writable in
     let place : c.place-at.result ≤ length (bytes_of Side (g.B.Bench.held c.loop-i.bench)) = omega (arith, g.met.B.Bench.sizes c.loop-i.bench Side tells writable.0, c.loop-i.invariant.within, c.place-at.ensures) in
@@ -100,7 +100,7 @@ loop-i-preserved g c =
           (write_puts Side _ _ _ _ (Ok c.in_ok-write_at-3.field-0) (c.in_ok-write_at-3.ensures.held tells));
       durable = λ tells. write_other_durable Side _ _ _ _ _ (c.write_at-in-loop-i-2.ensures.held tells) (write_other_durable Side _ _ _ _ _ (c.write_at-in-loop-i.ensures.held tells) (c.loop-i.invariant.durable tells));
       runs = λ tells.
-          let settled = c.requires.settled tells in
+          let settled = c.requires.synced tells in
           let long : 9 ≤ length (bytes_of Side start) = omega (arith, g.met.B.Bench.sizes c.args.bench.now Side tells c.requires.writable.0, c.requires.long) in
           let place : c.place-at.result ≤ length (bytes_of Side (g.B.Bench.held c.loop-i.bench)) = omega (arith, g.met.B.Bench.sizes c.loop-i.bench Side tells writable.0, c.loop-i.invariant.within, c.place-at.ensures) in
           let one = behind_turn start settled 9 long _ _ c.place-at.result _ _ (c.loop-i.invariant.runs tells) (omega (arith, c.place-at.ensures)) place (c.write_at-in-loop-i.ensures.held tells) in
@@ -125,5 +125,5 @@ returns-clause-side g c tells =
 pub returns-clause-image : goal.returns-clause-image
 returns-clause-image g c tells = sync_same Side Image _ _ _ (c.sync.ensures.held tells) ∙ c.loop-i.invariant.image tells
 
-pub returns-clause-settled : goal.returns-clause-settled
-returns-clause-settled g c tells = side_settles _ _ _ (c.sync.ensures.held tells) (c.loop-i.invariant.durable tells)
+pub returns-clause-synced : goal.returns-clause-synced
+returns-clause-synced g c tells = side_syncs _ _ _ (c.sync.ensures.held tells) (c.loop-i.invariant.durable tells)

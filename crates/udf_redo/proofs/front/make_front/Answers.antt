@@ -10,7 +10,7 @@ use Rattle.udf_redo.proofs.front.make_front.Goals as goal
 
 pub returns-in_err-length-clause-moments : goal.returns-in_err-length-clause-moments
 returns-in_err-length-clause-moments g c tells =
-    quiet_logging (g.B.Bench.held c.args.bench.now) _ c.length.ensures.held (c.requires.settled tells) (c.requires.free tells)
+    quiet_logging (g.B.Bench.held c.args.bench.now) _ c.length.ensures.held (c.requires.synced tells) (c.requires.free tells)
 
 pub returns-then-length-clause-moments : goal.returns-then-length-clause-moments
 returns-then-length-clause-moments g c tells =
@@ -25,7 +25,7 @@ returns-then-length-clause-shut g c tells =
 
 pub returns-clause-moments : goal.returns-clause-moments
 returns-clause-moments g c tells =
-    quiet_logging (g.B.Bench.held c.args.bench.now) _ c.length.ensures.held (c.requires.settled tells) (c.requires.free tells)
+    quiet_logging (g.B.Bench.held c.args.bench.now) _ c.length.ensures.held (c.requires.synced tells) (c.requires.free tells)
 
 pub returns-clause-shut : goal.returns-clause-shut
 returns-clause-shut g c tells =

@@ -9,13 +9,13 @@ use Rattle.udf_redo.proofs.Turns.{quiet_applying, then_closing}
 use Rattle.udf_redo.proofs.replaying.replay.Goals as goal
 
 pub returns-in_err-block-clause-moments : goal.returns-in_err-block-clause-moments
-returns-in_err-block-clause-moments g c tells log = let start = g.B.Bench.held c.args.bench.now in quiet_applying start log start (c.requires.settled tells) refl
+returns-in_err-block-clause-moments g c tells log = let start = g.B.Bench.held c.args.bench.now in quiet_applying start log start (c.requires.synced tells) refl
 
 pub returns-in_err-clash-clause-moments : goal.returns-in_err-clash-clause-moments
-returns-in_err-clash-clause-moments g c tells log = quiet_applying (g.B.Bench.held c.args.bench.now) log _ (c.requires.settled tells) c.clash_of.ensures.reads.held
+returns-in_err-clash-clause-moments g c tells log = quiet_applying (g.B.Bench.held c.args.bench.now) log _ (c.requires.synced tells) c.clash_of.ensures.reads.held
 
 pub returns-in-Some-clause-moments : goal.returns-in-Some-clause-moments
-returns-in-Some-clause-moments g c tells log = quiet_applying (g.B.Bench.held c.args.bench.now) log _ (c.requires.settled tells) c.clash_of.ensures.reads.held
+returns-in-Some-clause-moments g c tells log = quiet_applying (g.B.Bench.held c.args.bench.now) log _ (c.requires.synced tells) c.clash_of.ensures.reads.held
 
 pub replay_records-requires-clause-log : goal.replay_records-requires-clause-log
 replay_records-requires-clause-log g c tells =

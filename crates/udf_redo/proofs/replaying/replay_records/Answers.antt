@@ -1,13 +1,13 @@
 use Rattle.std.proofs.Common.{◌≡◌, ◌≤◌, ◌*◌, length, arith, refl, sym, ◌∙◌, ap, subst, Ok}
 use Rattle.udf_outside.specs.declared.bench.Role.TheVariants.{Image, Side}
 use Rattle.udf_outside.specs.Stops.{Held, bytes_of, IsDurable}
-use Rattle.udf_outside.proofs.Moments.{settled_durable}
+use Rattle.udf_outside.proofs.Moments.{synced_durable}
 use Rattle.udf_outside.proofs.Runs.{write_other_durable}
 use Rattle.udf_redo.specs.Log.{Edit}
 use Rattle.udf_redo.specs.declared.head.LogHead.{LogHead}
 use Rattle.udf_redo.specs.Log.{records_of}
 use Rattle.udf_redo.specs.Settled.{applied}
-use Rattle.udf_redo.proofs.Calls.{write_puts, on_ok, sync_same, image_settles}
+use Rattle.udf_redo.proofs.Calls.{write_puts, on_ok, sync_same, image_syncs}
 use Rattle.udf_redo.proofs.Applying.{written, all_written, none_written}
 use Rattle.udf_redo.proofs.Lawful.{length-records}
 use Rattle.udf_redo.proofs.Turns.{begin, block_turn, quiet, synced, applying, near_now, log_now, record_is, record_inside}
@@ -20,8 +20,8 @@ loop-k-init g c =
       faults = omega arith;
       image = λ tells. none_written (bytes_of Image start) c.args.head.now.size (records_of (bytes_of Side start));
       side = λ tells. refl;
-      durable = λ tells. settled_durable start Side (c.requires.settled tells);
-      runs = λ tells. begin start (c.requires.log tells) (c.requires.settled tells);
+      durable = λ tells. synced_durable start Side (c.requires.synced tells);
+      runs = λ tells. begin start (c.requires.log tells) (c.requires.synced tells);
     }
 
 pub returns-in_err-sector-clause-moments : goal.returns-in_err-sector-clause-moments
@@ -238,5 +238,5 @@ returns-clause-image g c tells =
     ∙ all_written (bytes_of Image start) head.size (records_of side) c.loop-k.k (bytes_of Image (g.B.Bench.held c.loop-k.bench)) (omega (arith, count)) (c.loop-k.invariant.image tells)
     ∙ ap (λ (h : LogHead). applied h.size (records_of side) (bytes_of Image start)) (sym same))
 
-pub returns-clause-settled : goal.returns-clause-settled
-returns-clause-settled g c tells = image_settles _ _ c.sync.result (c.sync.ensures.held tells) (c.loop-k.invariant.durable tells)
+pub returns-clause-synced : goal.returns-clause-synced
+returns-clause-synced g c tells = image_syncs _ _ c.sync.result (c.sync.ensures.held tells) (c.loop-k.invariant.durable tells)

@@ -17,11 +17,11 @@ use Rattle.udf_redo.proofs.written.write_log.Goals as goal
 pub returns-in_err-block-clause-moments : goal.returns-in_err-block-clause-moments
 returns-in_err-block-clause-moments g c tells =
     let start = g.B.Bench.held c.args.bench.now in
-    quiet_logging start start refl (c.requires.settled tells) (c.requires.free tells)
+    quiet_logging start start refl (c.requires.synced tells) (c.requires.free tells)
 
 pub returns-in_err-head-clause-moments : goal.returns-in_err-head-clause-moments
 returns-in_err-head-clause-moments g c tells =
-    quiet_logging (g.B.Bench.held c.args.bench.now) _ c.head_of.ensures.reads.held (c.requires.settled tells) (c.requires.free tells)
+    quiet_logging (g.B.Bench.held c.args.bench.now) _ c.head_of.ensures.reads.held (c.requires.synced tells) (c.requires.free tells)
 
 pub head_of-requires-clause-within : goal.head_of-requires-clause-within
 head_of-requires-clause-within g c =

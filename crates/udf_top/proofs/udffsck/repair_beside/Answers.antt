@@ -8,7 +8,7 @@ use Rattle.udf_top.proofs.udffsck.repair_beside.Goals as goal
 pub returns-in_default-clause-repairs : goal.returns-in_default-clause-repairs
 returns-in_default-clause-repairs g c tells repair is =
     let old = g.B.Bench.held c.args.bench.now in
-    repairs_failed repair.size old old (unbegun repair.size old old (c.requires.settled tells) refl) outcome.Memory (λ ended. ended) (λ none. inl refl)
+    repairs_failed repair.size old old (unbegun repair.size old old (c.requires.synced tells) refl) outcome.Memory (λ ended. ended) (λ none. inl refl)
 
 pub returns-clause-said : goal.returns-clause-said
 returns-clause-said g c tells before told =

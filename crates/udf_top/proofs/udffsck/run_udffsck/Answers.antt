@@ -103,4 +103,4 @@ returns-in-Err-Usage-clause-repaired g c repair e = absurd (commanded.none_asked
 pub returns-in-Err-Memory-clause-repairs : goal.returns-in-Err-Memory-clause-repairs
 returns-in-Err-Memory-clause-repairs g c tells repair is =
     let old = g.B.Bench.held c.args.bench.now in
-    repairs_failed repair.size old old (unbegun repair.size old old (c.requires.settled tells) refl) outcome.Memory (λ ended. ended) (λ none. inl refl)
+    repairs_failed repair.size old old (unbegun repair.size old old (c.requires.synced tells) refl) outcome.Memory (λ ended. ended) (λ none. inl refl)

@@ -13,7 +13,7 @@ use Rattle.udf_top.proofs.udffsck.mend.mend.Goals as goal
 pub returns-then-is_empty-clause-mends : goal.returns-then-is_empty-clause-mends
 returns-then-is_empty-clause-mends g c tells =
     let answers = c.in-Ok.ensures.answers tells in
-    mends_unbroken c.args.size _ _ (c.requires.settled tells) (c.requires.free tells) c.inspect.ensures.reads.held c.args.replayed c.end_unbroken.result
+    mends_unbroken c.args.size _ _ (c.requires.synced tells) (c.requires.free tells) c.inspect.ensures.reads.held c.args.replayed c.end_unbroken.result
     c.in-Ok.found.volume answers.0 (sym answers.1 ∙ empty_is _ c.if-is_empty.ensures) c.end_unbroken.ensures.ended
 
 pub returns-then-is_empty-clause-said : goal.returns-then-is_empty-clause-said
@@ -35,7 +35,7 @@ returns-in-Ok-clause-said g c tells before told =
 
 pub returns-in-Err-Missing-clause-mends : goal.returns-in-Err-Missing-clause-mends
 returns-in-Err-Missing-clause-mends g c tells =
-    mends_refused c.args.size _ _ (c.requires.settled tells) (c.requires.free tells) c.inspect.ensures.reads.held c.args.replayed c.say.result c.in-Err-Missing.missing
+    mends_refused c.args.size _ _ (c.requires.synced tells) (c.requires.free tells) c.inspect.ensures.reads.held c.args.replayed c.say.result c.in-Err-Missing.missing
     (rw c.in-Err-Missing.field-0-is at (c.in-Err-Missing.ensures.answers tells)) c.say.ensures.kept
 
 pub returns-in-Err-Missing-clause-said : goal.returns-in-Err-Missing-clause-said
@@ -47,8 +47,8 @@ returns-in-Err-Missing-clause-said g c tells before told =
 
 pub returns-in-Err-Fault-clause-mends : goal.returns-in-Err-Fault-clause-mends
 returns-in-Err-Fault-clause-mends g c tells =
-    mends_stopped c.args.size _ _ (c.requires.settled tells) (c.requires.free tells) c.inspect.ensures.reads.held c.args.replayed outcome.DeviceFault (λ ended. ended)
+    mends_stopped c.args.size _ _ (c.requires.synced tells) (c.requires.free tells) c.inspect.ensures.reads.held c.args.replayed outcome.DeviceFault (λ ended. ended)
 
 pub returns-clause-mends : goal.returns-clause-mends
 returns-clause-mends g c tells =
-    mends_stopped c.args.size _ _ (c.requires.settled tells) (c.requires.free tells) c.inspect.ensures.reads.held c.args.replayed outcome.Memory (λ ended. ended)
+    mends_stopped c.args.size _ _ (c.requires.synced tells) (c.requires.free tells) c.inspect.ensures.reads.held c.args.replayed outcome.Memory (λ ended. ended)

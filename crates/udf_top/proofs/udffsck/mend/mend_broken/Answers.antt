@@ -14,11 +14,11 @@ use Rattle.udf_top.proofs.udffsck.mend.mend_broken.Goals as goal
 
 pub returns-in-Err-clause-mends : goal.returns-in-Err-clause-mends
 returns-in-Err-clause-mends g c tells =
-    mends_stopped _ _ _ (c.requires.settled tells) (c.requires.free tells) c.plan_volume.ensures.reads.held c.args.replayed c.by_work.result c.by_work.ensures.failed
+    mends_stopped _ _ _ (c.requires.synced tells) (c.requires.free tells) c.plan_volume.ensures.reads.held c.args.replayed c.by_work.result c.by_work.ensures.failed
 
 pub returns-in-Err-say_mend-clause-mends : goal.returns-in-Err-say_mend-clause-mends
 returns-in-Err-say_mend-clause-mends g c tells =
-    mends_stopped _ _ _ (c.requires.settled tells) (c.requires.free tells) c.plan_volume.ensures.reads.held c.args.replayed c.outcome.result c.outcome.ensures.failed
+    mends_stopped _ _ _ (c.requires.synced tells) (c.requires.free tells) c.plan_volume.ensures.reads.held c.args.replayed c.outcome.result c.outcome.ensures.failed
 
 pub returns-in-Err-say_mend-clause-said : goal.returns-in-Err-say_mend-clause-said
 returns-in-Err-say_mend-clause-said g c tells before told =

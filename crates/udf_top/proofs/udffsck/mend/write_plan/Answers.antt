@@ -102,4 +102,4 @@ returns-clause-done g c tells after rewrites is_plan =
     (g.B.Bench.held c.open_gate.new.bench) (c.in_ok-open_gate.ensures.side tells) (c.open_gate.ensures.image tells) (c.open_gate.ensures.moments tells) in
     done_on c.close_gate.result after (g.B.Bench.held c.close_gate.new.bench)
     (c.close_gate.ensures.image tells ∙ c.in_ok-apply.ensures.image tells ∙ applied)
-    (c.close_gate.ensures.closed tells) (c.close_gate.ensures.settled tells)
+    (c.close_gate.ensures.closed tells) (c.close_gate.ensures.synced tells)

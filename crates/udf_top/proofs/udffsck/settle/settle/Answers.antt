@@ -17,7 +17,7 @@ returns-in-Ok-Empty-clause-image g c tells =
     ap (λ (h : Held). bytes_of Image h) c.side_state.ensures.reads.held ∙ sym (settling.settled_empty _ _ (c.in-Ok-Empty.ensures.state tells ∙ ap (λ (s : SideState). Ok s) c.in-Ok-Empty.field-0-is))
 
 pub returns-in-Ok-Empty-clause-moments : goal.returns-in-Ok-Empty-clause-moments
-returns-in-Ok-Empty-clause-moments g c tells goes_on = settling.rests _ _ (c.requires.settled tells) c.side_state.ensures.reads.held goes_on
+returns-in-Ok-Empty-clause-moments g c tells goes_on = settling.rests _ _ (c.requires.synced tells) c.side_state.ensures.reads.held goes_on
 
 pub returns-in-Ok-Closed-clause-answer : goal.returns-in-Ok-Closed-clause-answer
 returns-in-Ok-Closed-clause-answer g c tells = settling.replaying_closed _ _ (c.in-Ok-Closed.ensures.state tells ∙ ap (λ (s : SideState). Ok s) c.in-Ok-Closed.field-0-is)
@@ -27,7 +27,7 @@ returns-in-Ok-Closed-clause-image g c tells =
     ap (λ (h : Held). bytes_of Image h) c.side_state.ensures.reads.held ∙ sym (settling.settled_closed _ _ (c.in-Ok-Closed.ensures.state tells ∙ ap (λ (s : SideState). Ok s) c.in-Ok-Closed.field-0-is))
 
 pub returns-in-Ok-Closed-clause-moments : goal.returns-in-Ok-Closed-clause-moments
-returns-in-Ok-Closed-clause-moments g c tells goes_on = settling.rests _ _ (c.requires.settled tells) c.side_state.ensures.reads.held goes_on
+returns-in-Ok-Closed-clause-moments g c tells goes_on = settling.rests _ _ (c.requires.synced tells) c.side_state.ensures.reads.held goes_on
 
 pub returns-in-Ok-Open-clause-answer : goal.returns-in-Ok-Open-clause-answer
 returns-in-Ok-Open-clause-answer g c tells =
@@ -65,4 +65,4 @@ pub returns-in-Err-clause-answer : goal.returns-in-Err-clause-answer
 returns-in-Err-clause-answer g c tells = settling.refused_state _ _ c.in-Err.stop (c.in-Err.ensures.state tells)
 
 pub returns-in-Err-clause-moments : goal.returns-in-Err-clause-moments
-returns-in-Err-clause-moments g c tells goes_on = settling.rests _ _ (c.requires.settled tells) c.side_state.ensures.reads.held goes_on
+returns-in-Err-clause-moments g c tells goes_on = settling.rests _ _ (c.requires.synced tells) c.side_state.ensures.reads.held goes_on

@@ -3,7 +3,7 @@ use Rattle.std.specs.declared.alloc.Global.{Global}
 use Rattle.udf_outside.specs.declared.memory.change.Change.{Change}
 use Rattle.udf_outside.specs.Memory.{held_in}
 use Rattle.udf_outside.proofs.History.{held_synced}
-use Rattle.udf_outside.proofs.memory.MemBench.settle.Goals as goal
+use Rattle.udf_outside.proofs.memory.MemBench.make_durable.Goals as goal
 
 pub returns-clause-done : goal.returns-clause-done
 unfolding held_in
