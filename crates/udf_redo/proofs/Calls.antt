@@ -4,7 +4,7 @@ use Rattle.udf_outside.specs.declared.bench.Role.{Role}
 use Rattle.udf_outside.specs.declared.bench.Role.TheVariants.{Image, Side}
 use Rattle.udf_outside.specs.Files.{Files, other, resized, Resizes}
 use Rattle.udf_outside.specs.Stops.{Held, bytes_of, put, IsDurable, IsSynced, after_write, after_sync, moved_on, Writes, Syncs}
-use Rattle.udf_outside.proofs.Moments.{settled_from}
+use Rattle.udf_outside.proofs.Moments.{synced_from}
 use Rattle.udf_outside.proofs.Runs.{sync_other_durable, synced_durable}
 
 after_other : (role : Role) (at n : ℕ) (bytes : List ℕ) (held : Held) → bytes_of (other role) (after_write role at n bytes held) ≡ bytes_of (other role) held
@@ -44,11 +44,11 @@ sync_same role which old new (Err e) syncs = ap (λ (held : Held). bytes_of whic
 
 -- a sync of the one file that was written
 pub side_syncs : (old new : Held) {T E : Type 0} (result : Result T E) → Syncs Side old new result → IsDurable Image old → OnOk result (IsSynced new)
-side_syncs old new (Ok x) syncs durable = settled_from new (sync_other_durable Side old new (Ok x) syncs durable) (synced_durable Side old new (Ok x) syncs)
+side_syncs old new (Ok x) syncs durable = synced_from new (sync_other_durable Side old new (Ok x) syncs durable) (synced_durable Side old new (Ok x) syncs)
 side_syncs old new (Err e) syncs durable = tt
 
 pub image_syncs : (old new : Held) {T E : Type 0} (result : Result T E) → Syncs Image old new result → IsDurable Side old → OnOk result (IsSynced new)
-image_syncs old new (Ok x) syncs durable = settled_from new (synced_durable Image old new (Ok x) syncs) (sync_other_durable Image old new (Ok x) syncs durable)
+image_syncs old new (Ok x) syncs durable = synced_from new (synced_durable Image old new (Ok x) syncs) (sync_other_durable Image old new (Ok x) syncs durable)
 image_syncs old new (Err e) syncs durable = tt
 
 pub on_ok : {T E : Type 0} (result : Result T E) (P : Type 0) → P → OnOk result P

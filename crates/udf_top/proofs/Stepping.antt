@@ -155,5 +155,5 @@ module _ (size : ℕ) (after : List ℕ) (start logged : Held) (is : IsWritten s
 
 pub done_on : {T E : Type 0} (result : Result T E) (after : List ℕ) (end : Held) → bytes_of Image end ≡ after
     → OnOk result (state_of (bytes_of Side end) ≡ Ok Closed) → OnOk result (IsSynced end) → OnOk result (IsMended after end)
-done_on (Ok x) after end holds closed synced = record { holds = holds; side = inr closed; synced = settled }
+done_on (Ok x) after end holds closed synced = record { holds = holds; side = inr closed; synced = synced }
 done_on (Err e) after end holds closed synced = tt
