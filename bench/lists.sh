@@ -18,7 +18,7 @@ for crate in udf_model udf_field udf_text udf_file_model udf_layer udf_outside u
 done
 echo "lists_bench: udf_entry udf_layer udf_outside udf_file_model udf_field udf_model anyhow" >> "$work/crates.txt"
 program=$work/crates/lists_bench
-mkdir -p "$program/src" "$program/proofs/write_extents" "$program/proofs/fill"
+mkdir -p "$program/src" "$program/proofs/write_extents"
 cat > "$program/proofs/Lib.antt" <<'ANTT'
 pub mod Inside
 ANTT
@@ -47,19 +47,19 @@ use Rattle.lists_bench.proofs.write_extents.Given as goal
 abbrev pub invariant-loop-i : goal.invariant-loop-i
 invariant-loop-i l = IsWritable Image (files_in l.bench)
 ANTT
-rmdir "$program/proofs/fill"
 cat > "$program/src/main.rt" <<'RT'
 //! Times the reading of large lists.
 #![tactic(auto)]
 
-ghost use Rattle.std.specs.Prelude.{◌≡◌, ◌+◌, ◌*◌, ◌^◌, ◌<◌, ◌≤◌, length};
+ghost use Rattle.std.specs.Prelude.{◌+◌, ◌*◌, ◌^◌, ◌<◌, ◌≤◌, IfSome};
 ghost use Rattle.udf_outside.specs.Files.{IsWritable};
 ghost use Rattle.udf_outside.specs.Memory.{files_in};
 ghost use Rattle.udf_outside.specs.declared.bench.Role.TheVariants.{Image};
 
+use std::alloc::Global;
 use std::rt::Clock;
 use std::time::Instant;
-use udf_entry::{ListStop, list_of};
+use udf_entry::list_of;
 use udf_field::{Addr, FieldsMut, Short, retag};
 use udf_layer::{One, Physical};
 use udf_outside::{Access, Bench, Failed, MemBench, Role};
@@ -99,6 +99,7 @@ fn extent(block: &mut [u8; 4096], at: u32, first: u32, last: bool) {
 
 fn write_extents(bench: &mut MemBench, block: &mut [u8; 4096], many: u32) -> Result<(), Failed>
     requires { IsWritable Image (files_in bench.old) }
+    ensures { IsWritable Image (files_in bench.new) }
 {
     for i in 0..many {
         let at = 35u32.wrapping_add(i);
@@ -139,37 +140,46 @@ fn time_list(rt: &(impl Clock + Print + AllocGlobal), name: &str, bench: &mut Me
     Ok(())
 }
 
-fn time_runs(rt: &(impl Clock + Print + AllocGlobal), many: u32) -> anyhow::Result<()> {
-    let mut bench = MemBench::sparse(rt.alloc(), 17_179_869_184);
+// A bench over an image of so many bytes, zeros all.
+fn opened(alloc: Global, bytes: u64) -> Option<MemBench>
+    ensures { IfSome result (λ bench. IsWritable Image (files_in bench)) }
+{
+    let mut bench = MemBench::sparse(alloc, bytes);
+    match bench.attach(Role::Image, "a.img", Access::Write) {
+        Ok(()) => Some(bench),
+        Err(_) => None,
+    }
+}
+
+fn time_runs(rt: &(impl Clock + Print + AllocGlobal), bytes: u64, blocks: u32, many: u32) -> anyhow::Result<()> {
     let mut block = [0u8; 4096];
-    if bench.attach(Role::Image, "a.img", Access::Write).is_ok() {
+    if let Some(mut bench) = opened(rt.alloc(), bytes) {
         let _ = write_extents(&mut bench, &mut block, many);
         block.fill(0);
         put(&mut block, 216, 3, 4096, 35);
         entry(&mut block, 8);
-        time_list(rt, "single blocks", &mut bench, &block, 4_194_304)?;
+        time_list(rt, "single blocks", &mut bench, &block, blocks)?;
     }
     Ok(())
 }
 
-fn time_large(rt: &(impl Clock + Print + AllocGlobal)) -> anyhow::Result<()> {
-    let mut bench = MemBench::sparse(rt.alloc(), 109_951_162_777_600);
+fn time_large(rt: &(impl Clock + Print + AllocGlobal), bytes: u64, blocks: u32) -> anyhow::Result<()> {
     let mut block = [0u8; 4096];
-    if bench.attach(Role::Image, "a.img", Access::Write).is_ok() {
+    if let Some(mut bench) = opened(rt.alloc(), bytes) {
         put_runs(&mut block, 216, 100, 1_073_737_728, 4096, 262_144);
         entry(&mut block, 800);
-        time_list(rt, "large runs", &mut bench, &block, 268_435_456)?;
+        time_list(rt, "large runs", &mut bench, &block, blocks)?;
     }
     Ok(())
 }
 
 fn main(rt: HostRuntime) -> anyhow::Result<()> {
-    time_runs(&rt, 400)?;
-    time_runs(&rt, 800)?;
-    time_runs(&rt, 1600)?;
-    time_large(&rt)
+    time_runs(&rt, 17_179_869_184, 4_194_304, 400)?;
+    time_runs(&rt, 17_179_869_184, 4_194_304, 800)?;
+    time_runs(&rt, 17_179_869_184, 4_194_304, 1600)?;
+    time_large(&rt, 1_099_511_627_776, 268_435_456)
 }
 RT
 cd "$program"
-rt fmt > /dev/null || true
-rt "${1:-run}"
+rt fmt
+rt run

@@ -100,14 +100,14 @@ impl<'a> Entry<'a> {
         Fields::over(self.block).u64_at(INFORMATION_AT)
     }
 
-    /// The unique identifier (ECMA-167 4/14.9.20).
+    /// The unique identifier (ECMA-167 4/14.9.18).
     pub fn id(&self) -> u64
         ensures { result ≡ self.now.id }
     {
         Fields::over(self.block).u64_at(self.header - 16)
     }
 
-    /// The ICB of its extended attributes (ECMA-167 4/14.9.18).
+    /// The ICB of its extended attributes (ECMA-167 4/14.9.16 and 4/14.17.19).
     pub fn attributes(&self) -> Long
         ensures { result ≡ self.now.attributes }
     {

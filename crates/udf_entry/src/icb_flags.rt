@@ -30,7 +30,7 @@ bitflag_items! {
         const TRANSFORMED = 2048;
         /// The directory may have several FIDs of one name.
         const MULTI_VERSION = 4096;
-        /// The file is a named stream (OSTA UDF 2.3.5.2).
+        /// The file is a named stream.
         const STREAM = 8192;
     }
 }

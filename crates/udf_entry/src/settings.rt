@@ -38,7 +38,7 @@ pub fn set_links(block: &mut [u8], location: u32, links: u16)
     put_values(block, location, header, &values);
 }
 
-/// Gives the readable entry in a block at a location this unique identifier (ECMA-167 4/14.9.20), and a new tag. A block without
+/// Gives the readable entry in a block at a location this unique identifier (ECMA-167 4/14.9.18), and a new tag. A block without
 /// a readable entry stays as it is.
 #[tactic(auto, unfolding(udf_file_model::specs::Wanted::entry_wanting))]
 pub fn set_id(block: &mut [u8], location: u32, id: u64)

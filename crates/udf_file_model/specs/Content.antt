@@ -1,4 +1,4 @@
--- The content of an entry: the bytes of its list, or its embedded ones (ECMA-167 4/8.8.2, 4/12, 4/14.14.1.1).
+-- The content of an entry: the bytes of its list, or its embedded ones (ECMA-167 4/12, 4/14.14.1.1).
 use Rattle.std.specs.Prelude.{ℕ, zero, suc, ◌+◌, ◌==◌, min, if◌then◌else◌, Option, Some, None, List, [], ◌∷◌, ◌++◌, take, replicate}
 use Rattle.udf_field.specs.declared.address.Addr.{Addr}
 use Rattle.udf_file_model.specs.Address.{addr}

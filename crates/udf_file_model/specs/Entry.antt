@@ -22,7 +22,7 @@ flags_at block = number_at 2 block 34
 abbrev pub kind_at : List ℕ → ℕ
 kind_at block = flags_at block % 8
 
--- 4/14.9.21 and 22: the length of the extended attributes (L_EA) and of the allocation descriptors (L_AD) end the header
+-- 4/14.9.19 and 20: the length of the extended attributes (L_EA) and of the allocation descriptors (L_AD) end the header
 abbrev pub attribute_bytes : ℕ → List ℕ → ℕ
 attribute_bytes header block = number_at 4 block (header - 8)
 
@@ -61,11 +61,11 @@ links_at block = number_at 2 block 48
 abbrev pub information_at : List ℕ → ℕ
 information_at block = number_at 8 block 56
 
--- 4/14.9.20
+-- 4/14.9.18
 abbrev pub unique_id_at : ℕ → List ℕ → ℕ
 unique_id_at header block = number_at 8 block (header - 16)
 
--- 4/14.9.18 and 4/14.17.19
+-- 4/14.9.16 and 4/14.17.19
 abbrev pub attributes_place : ℕ → ℕ
 attributes_place header = if header == 216 then 136 else 112
 
