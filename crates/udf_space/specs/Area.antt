@@ -5,10 +5,13 @@ use Rattle.udf_model.specs.Bytes.{number_at, with_number, written_at}
 use Rattle.udf_model.specs.Tag.{is_id, whole_id, retagged}
 use Rattle.udf_space.specs.Bits.{bytes_for, bits_of, packed}
 
--- 4/7.2.1: the area holds a lawful bitmap of so many blocks, wherever its tag says that it stands
+-- 4/14.12.2 and 4/14.12.3: the counts of an area are those of so many blocks
+unfoldable pub has_counts : ℕ → List ℕ → Bool
+has_counts blocks area = (number_at 4 area 16 == blocks) && (number_at 4 area 20 == bytes_for blocks)
+
+-- 4/7.2.1: the area is that of a lawful bitmap of so many blocks, wherever its tag says that it stands
 unfoldable pub is_bitmap : ℕ → List ℕ → Bool
-is_bitmap blocks area =
-    is_id 264 (whole_id area) && ((number_at 4 area 16 == blocks) && (number_at 4 area 20 == bytes_for blocks))
+is_bitmap blocks area = is_id 264 (whole_id area) && has_counts blocks area
 
 -- the bits of a lawful bitmap of so many blocks; bits past them mean nothing
 unfoldable pub bitmap_in : ℕ → List ℕ → Option (List Bool)

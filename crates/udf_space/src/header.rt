@@ -1,7 +1,7 @@
 // What stands before the bits of a bitmap (ECMA-167 4/14.12).
 ghost use Rattle.std.specs.Prelude.{◌≡◌, ◌+◌, ◌≤◌, length};
 ghost use Rattle.udf_space.specs.Bits.{bytes_for};
-ghost use Rattle.udf_space.specs.Area.{headed, is_bitmap};
+ghost use Rattle.udf_space.specs.Area.{has_counts, headed, is_bitmap};
 
 use crate::stored::stored_bytes;
 use udf_field::{Fields, FieldsMut, whole_id};
@@ -25,17 +25,25 @@ const BYTE_COUNT_AT: usize = 20;
 // Where the bits begin.
 pub(crate) const BITS_AT: usize = 24;
 
+// Whether the counts of an area are those of so many blocks.
+fn has_counts(area: &[u8], blocks: u32) -> bool
+    requires { 24 ≤ length area.now }
+    ensures { result ≡ has_counts blocks area.now }
+{
+    let fields = Fields::over(area);
+    fields.u32_at(BIT_COUNT_AT) == blocks
+        && fields.u32_at(BYTE_COUNT_AT) as usize == stored_bytes(blocks)
+}
+
 // Whether an area begins with the header of a bitmap of so many blocks.
 pub(crate) fn has_header(area: &[u8], blocks: u32) -> bool
     requires { 24 ≤ length area.now }
     ensures { result ≡ is_bitmap blocks area.now }
 {
-    if whole_id(area) != Some(SPACE_BITMAP) {
-        return false;
+    match whole_id(area) {
+        Some(SPACE_BITMAP) => has_counts(area, blocks),
+        _ => false,
     }
-    let fields = Fields::over(area);
-    fields.u32_at(BIT_COUNT_AT) == blocks
-        && fields.u32_at(BYTE_COUNT_AT) as usize == stored_bytes(blocks)
 }
 
 // Writes the header of a bitmap of so many blocks, but for the tag's CRC, location and checksum.

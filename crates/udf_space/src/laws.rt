@@ -1,5 +1,5 @@
 // What the definitions of space bitmaps mean.
-ghost use Rattle.std.specs.Prelude.{◌≡◌, ℕ, ◌+◌, ◌*◌, ◌^◌, ◌<◌, ◌≤◌, Bool, false, Some, List, length, take, drop};
+ghost use Rattle.std.specs.Prelude.{◌≡◌, ℕ, ◌+◌, ◌^◌, ◌<◌, ◌≤◌, Bool, false, Some, List, ◌++◌, length, take, drop};
 ghost use Rattle.udf_model.specs.Bytes.{IsBytes, number_at};
 ghost use Rattle.udf_model.specs.Tag.{crc_length, id_at};
 ghost use Rattle.udf_space.specs.Bits.{bit_of, bits_of, bytes_for, packed};
@@ -8,7 +8,7 @@ ghost use Rattle.udf_space.specs.Area.{bitmap_in, encoded};
 /// The bits of a bitmap depend on its own bytes alone, and the bytes of bits hold those bits, and zeros past them.
 pub fn bits_law()
     ensures own { (blocks : ℕ) (a b : List ℕ) → take (bytes_for blocks) a ≡ take (bytes_for blocks) b → bits_of blocks a ≡ bits_of blocks b }
-    ensures back { (bits : List Bool) (rest : List ℕ) → bits_of (length bits) (take (bytes_for (length bits)) (packed bits)) ≡ bits }
+    ensures back { (bits : List Bool) (rest : List ℕ) → bits_of (length bits) (packed bits ++ rest) ≡ bits }
     ensures clear { (bits : List Bool) (n : ℕ) → length bits ≤ n → bit_of (packed bits) n ≡ false }
     ensures long { (bits : List Bool) → length (packed bits) ≡ bytes_for (length bits) }
     ensures bytes { (bits : List Bool) → IsBytes (packed bits) }

@@ -1,5 +1,5 @@
 // The bytes in which a bitmap keeps its bits.
-ghost use Rattle.std.specs.Prelude.{◌≡◌, ◌+◌, ◌/◌, ◌≤◌, ◌<◌, ◌^◌, length};
+ghost use Rattle.std.specs.Prelude.{◌≡◌, ◌-◌, ◌<◌, ◌^◌, length};
 ghost use Rattle.udf_space.specs.Bits.{bits_of, bytes_for};
 ghost use Rattle.udf_space.specs.Stored.{IsStored};
 
