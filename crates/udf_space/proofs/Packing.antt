@@ -115,8 +115,8 @@ stored_bit blocks bytes n stored =
     (cases_lt n blocks)
 
 -- stored bytes are those of their bits
-pub stored_packed : (blocks : ℕ) (bytes : List ℕ) → IsStored blocks bytes → IsBytes bytes → packed (bits_of blocks bytes) ≡ bytes
-stored_packed blocks bytes stored small =
+pub stored_packed : (blocks : ℕ) (bytes : List ℕ) → IsStored blocks bytes → packed (bits_of blocks bytes) ≡ bytes
+stored_packed blocks bytes stored =
     ext_get_or 0 (packed (bits_of blocks bytes)) bytes long (λ k within. same k (omega (arith, long, stored.long))) where
       many : length (bits_of blocks bytes) ≡ blocks
       many = bits_length blocks bytes
@@ -130,4 +130,4 @@ stored_packed blocks bytes stored small =
       same k within =
           packed_byte (bits_of blocks bytes) k (omega (arith, many))
           ∙ same_from_bits_below 8 (byte_of (take 8 (drop (8 * k) (bits_of blocks bytes)))) (get_or bytes k 0)
-          (byte_below (take 8 (drop (8 * k) (bits_of blocks bytes))) 8 (eight (drop (8 * k) (bits_of blocks bytes)))) (small k) (bit k)
+          (byte_below (take 8 (drop (8 * k) (bits_of blocks bytes))) 8 (eight (drop (8 * k) (bits_of blocks bytes)))) (stored.small k) (bit k)

@@ -1,9 +1,11 @@
 -- Bits that are changed, each at its place.
 use Rattle.std.proofs.Common.{◌≡◌, ◌≢◌, ℕ, suc, ◌+◌, ◌-◌, ◌*◌, ◌/◌, ◌%◌, ◌^◌, ◌<◌, ◌≤◌, arith, refl, sym, ◌∙◌, ap, Bool, true, false, eqb, List, length, take, set, replicate, get_or, ⊎_elim, min, bit_and, w8}
 use Rattle.std.specs.Int.{bit_at, bit_not}
+use Rattle.std.proofs.lemmas.Nat.{and_le_l}
 use Rattle.std.proofs.lemmas.Nat.Bits.{bit_at-lt, bit_at_and, bit_at_ones, bit_at_ones_above, bit_at_clear_same, bit_at_clear_other}
 use Rattle.std.proofs.lemmas.Bool.{cases_lt, cases_eq}
 use Rattle.std.proofs.lemmas.List.{get_or-set_same, get_or-set_other, get_or-take, get_or-replicate, length-set, length-replicate}
+use Rattle.udf_model.specs.Bytes.{IsBytes}
 use Rattle.udf_space.specs.Bits.{bit_of, bits_of, bytes_for}
 use Rattle.udf_space.specs.Stored.{IsStored}
 use Rattle.udf_space.proofs.Packing.{bit_at_place, bit_past, bits_length, bits_get, same_bits}
@@ -33,6 +35,14 @@ other_byte bytes k x n apart = ap (λ byte. eqb (bit_at byte (n % 8)) 1) (get_or
 same_byte : (bytes : List ℕ) (k i x n : ℕ) → n ≡ 8 * k + i → i < 8 → k < length bytes → bit_of (set bytes k x) n ≡ eqb (bit_at x i) 1
 same_byte bytes k i x n is small within =
     bit_at_place (set bytes k x) k i n is small ∙ ap (λ byte. eqb (bit_at byte i) 1) (get_or-set_same bytes k x 0 within)
+
+masked : (bytes : List ℕ) (k mask : ℕ) → IsBytes bytes → k < length bytes → IsBytes (set bytes k (bit_and (get_or bytes k 0) mask))
+masked bytes k mask small within i = ⊎_elim here (λ h. let e = get_or-set_other bytes k i (bit_and (get_or bytes k 0) mask) 0 h in omega (arith, e, small i)) (cases_eq i k) where
+  here : i ≡ k → get_or (set bytes k (bit_and (get_or bytes k 0) mask)) i 0 < 256
+  here e =
+      let is : get_or (set bytes k (bit_and (get_or bytes k 0) mask)) i 0 ≡ bit_and (get_or bytes k 0) mask =
+      ap (λ j. get_or (set bytes k (bit_and (get_or bytes k 0) mask)) j 0) e ∙ get_or-set_same bytes k (bit_and (get_or bytes k 0) mask) 0 within in
+      omega (arith, is, small k, and_le_l (get_or bytes k 0) mask)
 
 -- the byte with one bit cleared
 abbrev pub cleared : ℕ → ℕ → ℕ
@@ -71,6 +81,7 @@ pub claimed_stored : (blocks : ℕ) (bytes : List ℕ) (b : ℕ) → b < blocks 
     → IsStored blocks (set bytes (b / 8) (cleared (get_or bytes (b / 8) 0) (b % 8)))
 claimed_stored blocks bytes b small stored = record {
   long = length-set bytes (b / 8) (cleared (get_or bytes (b / 8) 0) (b % 8)) ∙ stored.long;
+  small = masked bytes (b / 8) (bit_not w8 (1 * 2 ^ (b % 8) % 2 ^ 8)) stored.small (omega (arith, stored.long));
   clear = λ n large. claimed_other bytes b n (omega (arith, stored.long)) (λ same. omega arith) ∙ stored.clear n large;
 }
 
@@ -119,13 +130,14 @@ rest_bits blocks bytes long part =
     same_bits blocks (set bytes (blocks / 8) (kept_below (get_or bytes (blocks / 8) 0) (blocks % 8))) (bits_of blocks bytes) (bits_length blocks bytes)
     (λ n small. rest_low bytes blocks n long part small ∙ sym (bits_get blocks bytes n false small))
 
-pub rest_stored : (blocks : ℕ) (bytes : List ℕ) → length bytes ≡ bytes_for blocks → blocks % 8 ≢ 0
+pub rest_stored : (blocks : ℕ) (bytes : List ℕ) → length bytes ≡ bytes_for blocks → IsBytes bytes → blocks % 8 ≢ 0
     → IsStored blocks (set bytes (blocks / 8) (kept_below (get_or bytes (blocks / 8) 0) (blocks % 8)))
-rest_stored blocks bytes long part = record {
+rest_stored blocks bytes long small part = record {
   long = length-set bytes (blocks / 8) (kept_below (get_or bytes (blocks / 8) 0) (blocks % 8)) ∙ long;
+  small = masked bytes (blocks / 8) (2 ^ (blocks % 8) - 1) small (omega arith);
   clear = λ n large. rest_high bytes blocks n long part large;
 }
 
 -- where the last byte is full, no bit stands past the last block
-pub full_stored : (blocks : ℕ) (bytes : List ℕ) → length bytes ≡ bytes_for blocks → blocks % 8 ≡ 0 → IsStored blocks bytes
-full_stored blocks bytes long full = record { long = long; clear = λ n large. bit_past bytes n (omega arith) }
+pub full_stored : (blocks : ℕ) (bytes : List ℕ) → length bytes ≡ bytes_for blocks → IsBytes bytes → blocks % 8 ≡ 0 → IsStored blocks bytes
+full_stored blocks bytes long small full = record { long = long; small = small; clear = λ n large. bit_past bytes n (omega arith) }

@@ -43,6 +43,7 @@ impl Bitmap {
     /// The bitmap of so many blocks that an area holds, which is the extent of the bitmap: its tag is whole and has the
     /// identifier of a space bitmap, and its counts are those of the blocks. The location of the tag is not looked at.
     /// `NoMemory` where there is none for a bit a block.
+    #[tactic(auto, unfolding(crate::specs::Area::bitmap_in))]
     pub fn read(alloc: Global, area: &[u8], blocks: u32) -> Result<Option<Bitmap>, NoMemory>
         requires { 24 + bytes_for blocks ≤ length area.now }
         ensures { IfOk result (λ bitmap. bitmap ≡ bitmap_in blocks area.now) }
@@ -77,6 +78,8 @@ impl Bitmap {
     pub fn free_count(&self) -> u32
         ensures { result ≡ count_by (λ free. free) self.now }
     {
+        // No more than the blocks are counted, so the count fits.
+        let _blocks = self.blocks;
         let mut total = 0;
         for byte in &self.bytes {
             total += byte.count_ones();

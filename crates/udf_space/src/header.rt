@@ -26,6 +26,7 @@ const BYTE_COUNT_AT: usize = 20;
 pub(crate) const BITS_AT: usize = 24;
 
 // Whether the counts of an area are those of so many blocks.
+#[tactic(auto, unfolding(crate::specs::Area::has_counts))]
 fn has_counts(area: &[u8], blocks: u32) -> bool
     requires { 24 ≤ length area.now }
     ensures { result ≡ has_counts blocks area.now }
@@ -36,6 +37,7 @@ fn has_counts(area: &[u8], blocks: u32) -> bool
 }
 
 // Whether an area begins with the header of a bitmap of so many blocks.
+#[tactic(auto, unfolding(crate::specs::Area::is_bitmap))]
 pub(crate) fn has_header(area: &[u8], blocks: u32) -> bool
     requires { 24 ≤ length area.now }
     ensures { result ≡ is_bitmap blocks area.now }
@@ -47,6 +49,7 @@ pub(crate) fn has_header(area: &[u8], blocks: u32) -> bool
 }
 
 // Writes the header of a bitmap of so many blocks, but for the tag's CRC, location and checksum.
+#[tactic(auto, unfolding(crate::specs::Area::headed))]
 pub(crate) fn put_header(into: &mut [u8], version: u16, serial: u16, blocks: u32)
     requires { 24 ≤ length into.old }
     ensures { into.new ≡ headed version serial blocks into.old }

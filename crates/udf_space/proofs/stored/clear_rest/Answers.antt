@@ -9,7 +9,7 @@ returns-then-used-ne0-clause-stored c =
     let bytes = c.args.bytes.now in
     let last = c.args.blocks / 8 in
     subst (λ ones. IsStored c.args.blocks (set bytes last (bit_and (get_or bytes last 0) ones))) (sym c.ones_below.ensures)
-    (rest_stored c.args.blocks bytes c.requires c.if-used-ne0.true)
+    (rest_stored c.args.blocks bytes c.requires (?) c.if-used-ne0.true)
 
 pub returns-then-used-ne0-clause-same_bits : goal.returns-then-used-ne0-clause-same_bits
 returns-then-used-ne0-clause-same_bits c =
@@ -19,4 +19,4 @@ returns-then-used-ne0-clause-same_bits c =
     ∙ rest_bits c.args.blocks bytes c.requires c.if-used-ne0.true
 
 pub returns-else-used-ne0-clause-stored : goal.returns-else-used-ne0-clause-stored
-returns-else-used-ne0-clause-stored c = full_stored c.args.blocks c.args.bytes.now c.requires c.if-used-ne0.false
+returns-else-used-ne0-clause-stored c = full_stored c.args.blocks c.args.bytes.now c.requires c.type_inv.bytes c.if-used-ne0.false
