@@ -1,5 +1,6 @@
 // The bytes in which a bitmap keeps its bits.
-ghost use Rattle.std.specs.Prelude.{◌≡◌, ◌-◌, ◌<◌, ◌^◌, length};
+ghost use Rattle.std.specs.Prelude.{◌≡◌, ◌-◌, ◌<◌, ◌^◌, bit_and, length, slice_index, slice_set};
+ghost use Rattle.udf_model.specs.Bytes.{IsBytes};
 ghost use Rattle.udf_space.specs.Bits.{bits_of, bytes_for};
 ghost use Rattle.udf_space.specs.Stored.{IsStored};
 
@@ -13,12 +14,14 @@ pub(crate) fn stored_bytes(blocks: u32) -> usize
     (blocks as usize + 7) / 8
 }
 
-// The bits of a byte that stand below a place.
-fn ones_below(place: u32) -> u8
-    requires { place < 8 }
-    ensures { result ≡ 2 ^ place - 1 }
+// Clears the bits of a byte from a place on. That the bytes are bytes is said for the caller's proof.
+fn keep_below(bytes: &mut [u8], at: usize, place: u32)
+    requires at { at < length bytes.old }
+    requires place { place < 8 }
+    ensures kept { bytes.new ≡ slice_set bytes.old at (bit_and (slice_index bytes.old at) (2 ^ place - 1)) }
+    ensures small { IsBytes bytes.old }
 {
-    (1u8 << place) - 1
+    bytes[at] &= (1u8 << place) - 1;
 }
 
 // Clears the bits past the last block.
@@ -29,6 +32,6 @@ pub(crate) fn clear_rest(bytes: &mut [u8], blocks: u32)
 {
     let used = blocks % BYTE_BITS;
     if used != 0 {
-        bytes[(blocks / BYTE_BITS) as usize] &= ones_below(used);
+        keep_below(bytes, (blocks / BYTE_BITS) as usize, used);
     }
 }
