@@ -51,5 +51,11 @@ ones_below_blocks blocks bytes k stored within =
     let more : take (k + 1) bytes ≡ take k bytes ++ get_or bytes k 0 ∷ [] = take_more bytes k 0 within in
     let sum : sum_by count_ones (take (k + 1) bytes) ≡ sum_by count_ones (take k bytes) + sum_by count_ones (get_or bytes k 0 ∷ []) =
     ap (sum_by count_ones) more ∙ sum_by-append count_ones (take k bytes) (get_or bytes k 0 ∷ []) in
-    omega (arith, sum, ones_so_far blocks bytes (k + 1) stored (omega arith), count_by-le-length (λ (free : Bool). free) (take (8 * (k + 1)) bits),
-    length-take (8 * (k + 1)) bits, bits_length blocks bytes)
+    omega (
+      arith,
+      sum,
+      ones_so_far blocks bytes (k + 1) stored (omega arith),
+      count_by-le-length (λ (free : Bool). free) (take (8 * (k + 1)) bits),
+      length-take (8 * (k + 1)) bits,
+      bits_length blocks bytes,
+    )

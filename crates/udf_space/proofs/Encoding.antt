@@ -198,6 +198,7 @@ encoded_counts version serial location bits area fits room =
     ap (λ b. b && eqb (number_at 4 (retagged location 0 head) 20) (bytes_for (length bits))) (eq-eqb _ _ first) ∙ eq-eqb _ _ second where
       at_16 : (xs ys : List ℕ) → drop 16 xs ≡ drop 16 ys → number_at 4 xs 16 ≡ number_at 4 ys 16
       at_16 xs ys same = ap (λ zs. number_at 4 zs 0) same
+
       at_20 : (xs ys : List ℕ) → drop 20 xs ≡ drop 20 ys → number_at 4 xs 20 ≡ number_at 4 ys 20
       at_20 xs ys same = ap (λ zs. number_at 4 zs 0) same
 

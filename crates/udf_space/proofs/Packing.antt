@@ -44,6 +44,7 @@ pub packed_is_bytes : (bits : List Bool) → IsBytes (packed bits)
 packed_is_bytes bits k = ⊎_elim (within k) (past k) (cases_lt k (bytes_for (length bits))) where
   within : (k : ℕ) → k < bytes_for (length bits) → get_or (packed bits) k 0 < 256
   within k small = omega (arith, packed_byte bits k small, byte_below (take 8 (drop (8 * k) bits)) 8 (eight (drop (8 * k) bits)))
+
   past : (k : ℕ) → bytes_for (length bits) ≤ k → get_or (packed bits) k 0 < 256
   past k large = omega (arith, get_or_past (packed bits) k 0 (omega (arith, packed_length bits)))
 
@@ -94,6 +95,7 @@ packed_clear bits n large = ⊎_elim (λ h. within h) (λ h. bit_past (packed bi
   byte_of_it : n / 8 < bytes_for (length bits) → bit_of (packed bits) n ≡ eqb (bit_at (byte_of (take 8 (drop (8 * (n / 8)) bits))) (n % 8)) 1
   byte_of_it h =
       bit_at_place (packed bits) (n / 8) (n % 8) n (omega arith) (omega arith) ∙ ap (λ byte. eqb (bit_at byte (n % 8)) 1) (packed_byte bits (n / 8) h)
+
   within : n / 8 < bytes_for (length bits) → bit_of (packed bits) n ≡ false
   within h =
       byte_of_it h ∙ place_bit bits (n / 8) (n % 8) (omega arith) ∙ get_or_past bits (8 * (n / 8) + n % 8) false (omega arith)
@@ -120,12 +122,15 @@ stored_packed blocks bytes stored =
     ext_get_or 0 (packed (bits_of blocks bytes)) bytes long (λ k within. same k (omega (arith, long, stored.long))) where
       many : length (bits_of blocks bytes) ≡ blocks
       many = bits_length blocks bytes
+
       long : length (packed (bits_of blocks bytes)) ≡ length bytes
       long = packed_length (bits_of blocks bytes) ∙ ap bytes_for many ∙ sym stored.long
+
       bit : (k i : ℕ) → i < 8 → bit_at (byte_of (take 8 (drop (8 * k) (bits_of blocks bytes)))) i ≡ bit_at (get_or bytes k 0) i
       bit k i low =
           one_bit _ _ (bit_at-lt (byte_of (take 8 (drop (8 * k) (bits_of blocks bytes)))) i) (bit_at-lt (get_or bytes k 0) i)
           (place_bit (bits_of blocks bytes) k i low ∙ stored_bit blocks bytes (8 * k + i) stored ∙ bit_at_place bytes k i (8 * k + i) refl low)
+
       same : (k : ℕ) → k < bytes_for blocks → get_or (packed (bits_of blocks bytes)) k 0 ≡ get_or bytes k 0
       same k within =
           packed_byte (bits_of blocks bytes) k (omega (arith, many))

@@ -72,6 +72,7 @@ claimed_bits blocks bytes b small long =
           ap (bit_of (set bytes (b / 8) (cleared (get_or bytes (b / 8) 0) (b % 8)))) e ∙ claimed_here bytes b (omega arith)
           ∙ sym (ap (λ m. get_or (set (bits_of blocks bytes) b false) m false) e
           ∙ get_or-set_same (bits_of blocks bytes) b false false (omega (arith, bits_length blocks bytes)))
+
       there : (n : ℕ) → n < blocks → n ≢ b → bit_of (set bytes (b / 8) (cleared (get_or bytes (b / 8) 0) (b % 8))) n ≡ get_or (set (bits_of blocks bytes) b false) n false
       there n within apart =
           claimed_other bytes b n (omega arith) apart
@@ -100,6 +101,7 @@ rest_low bytes blocks n long part small = ⊎_elim here (λ h. other_byte bytes 
       lesser (bit_at (get_or bytes (blocks / 8) 0) (n % 8)) low) where
         lesser : (x : ℕ) → x < 2 → min x 1 ≡ x
         lesser x low = omega arith
+
   here : n / 8 ≡ blocks / 8 → bit_of (set bytes (blocks / 8) (kept_below (get_or bytes (blocks / 8) 0) (blocks % 8))) n ≡ bit_of bytes n
   here e =
       same_byte bytes (blocks / 8) (n % 8) (kept_below (get_or bytes (blocks / 8) 0) (blocks % 8)) n (omega arith) (omega arith) (omega arith)
@@ -110,15 +112,18 @@ pub rest_high : (bytes : List ℕ) (blocks n : ℕ) → length bytes ≡ bytes_f
 rest_high bytes blocks n long part large = ⊎_elim here past (cases_eq (n / 8) (blocks / 8)) where
   none : (x : ℕ) → min x 0 ≡ 0
   none x = omega arith
+
   lost : n / 8 ≡ blocks / 8 → bit_at (kept_below (get_or bytes (blocks / 8) 0) (blocks % 8)) (n % 8) ≡ 0
   lost e =
       bit_at_and (get_or bytes (blocks / 8) 0) (2 ^ (blocks % 8) - 1) (n % 8)
       ∙ ap (λ x. min (bit_at (get_or bytes (blocks / 8) 0) (n % 8)) x) (bit_at_ones_above (blocks % 8) (n % 8) (omega arith))
       ∙ none (bit_at (get_or bytes (blocks / 8) 0) (n % 8))
+
   here : n / 8 ≡ blocks / 8 → bit_of (set bytes (blocks / 8) (kept_below (get_or bytes (blocks / 8) 0) (blocks % 8))) n ≡ false
   here e =
       same_byte bytes (blocks / 8) (n % 8) (kept_below (get_or bytes (blocks / 8) 0) (blocks % 8)) n (omega arith) (omega arith) (omega arith)
       ∙ ap (λ x. eqb x 1) (lost e)
+
   past : n / 8 ≢ blocks / 8 → bit_of (set bytes (blocks / 8) (kept_below (get_or bytes (blocks / 8) 0) (blocks % 8))) n ≡ false
   past apart =
       bit_past (set bytes (blocks / 8) (kept_below (get_or bytes (blocks / 8) 0) (blocks % 8))) n

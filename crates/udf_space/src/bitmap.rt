@@ -78,7 +78,7 @@ impl Bitmap {
     pub fn free_count(&self) -> u32
         ensures { result ≡ count_by (λ free. free) self.now }
     {
-        // No more than the blocks are counted, so the count fits.
+        // The count is at most this, so it fits.
         let _blocks = self.blocks;
         let mut total = 0;
         for byte in &self.bytes {

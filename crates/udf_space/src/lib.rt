@@ -12,3 +12,5 @@ pub use bitmap::Bitmap;
 pub use laws::{bits_law, encode_law};
 pub use std::alloc::AllocError as NoMemory;
 
+#[cfg(test)]
+mod tests;

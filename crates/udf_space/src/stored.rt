@@ -11,10 +11,10 @@ pub(crate) const BYTE_BITS: u32 = 8;
 pub(crate) fn stored_bytes(blocks: u32) -> usize
     ensures { result ≡ bytes_for blocks }
 {
-    (blocks as usize + 7) / 8
+    blocks.div_ceil(BYTE_BITS) as usize
 }
 
-// Clears the bits of a byte from a place on. That the bytes are bytes is said for the caller's proof.
+// Clears the bits of a byte from a place on. The proof of the caller needs that each byte is below 256.
 fn keep_below(bytes: &mut [u8], at: usize, place: u32)
     requires at { at < length bytes.old }
     requires place { place < 8 }
