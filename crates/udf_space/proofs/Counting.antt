@@ -1,12 +1,12 @@
 -- The ones of stored bytes are the bits that are set.
-use Rattle.std.proofs.Common.{◌≡◌, ℕ, zero, suc, ◌+◌, ◌*◌, ◌<◌, ◌≤◌, arith, refl, sym, ◌∙◌, ap, Bool, true, false, cond, List, [], ◌∷◌, ◌++◌, length, take, drop, get_or, count_ones}
+use Rattle.std.proofs.Common.{◌≡◌, ℕ, zero, suc, ◌+◌, ◌*◌, ◌<◌, ◌≤◌, arith, refl, sym, ◌∙◌, ap, Bool, cond, List, [], ◌∷◌, ◌++◌, length, take, drop, get_or, count_ones}
 use lib.Lanes.{mask_l}
 use Rattle.std.specs.List.{sum_by, count_by}
 use Rattle.std.proofs.lemmas.Simd.{ones-mask_l}
 use Rattle.std.proofs.lemmas.List.{map-id, take_more, take_all, length-take}
 use Rattle.std.proofs.lemmas.List.Sums.{sum_by-append, count_by-le-length}
 use Rattle.std.proofs.Math.Seq.{take-add}
-use Rattle.udf_space.specs.Bits.{bits_of, byte_of, bytes_for, packed}
+use Rattle.udf_space.specs.Bits.{bits_of, byte_of}
 use Rattle.udf_space.specs.Stored.{IsStored}
 use Rattle.udf_space.proofs.Packing.{bits_length, packed_byte, stored_packed}
 

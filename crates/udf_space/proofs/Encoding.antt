@@ -1,11 +1,11 @@
 -- What stands in an area that a bitmap is written to.
-use Rattle.std.proofs.Common.{◌≡◌, ℕ, ◌+◌, ◌-◌, ◌*◌, ◌/◌, ◌^◌, ◌<◌, ◌≤◌, arith, refl, sym, ◌∙◌, ap, Bool, true, false, cond, eqb, ◌&&◌, Option, Some, None, List, [], ◌∷◌, ◌++◌, length, take, drop, get_or, inl, inr}
+use Rattle.std.proofs.Common.{◌≡◌, ℕ, ◌+◌, ◌-◌, ◌^◌, ◌<◌, ◌≤◌, arith, sym, ◌∙◌, ap, Bool, true, cond, eqb, ◌&&◌, Some, None, List, ◌++◌, length, take, drop, get_or, inl}
 use Rattle.std.proofs.lemmas.Bool.{eq-eqb}
 use Rattle.std.proofs.lemmas.List.{drop-drop, get_or-take, get_or-drop}
 use borrow.Rule.Slice.PartMut.{put_mid}
 use Rattle.udf_model.specs.Bytes.{number_at, with_number, written_at}
 use Rattle.udf_model.specs.Crc.{crc_of}
-use Rattle.udf_model.specs.Tag.{crc_length, id_at, identifier, is_id, is_whole, retagged, whole_id}
+use Rattle.udf_model.specs.Tag.{crc_length, id_at, identifier, is_id, retagged, whole_id}
 use Rattle.udf_model.proofs.Written.{written_length, written_from, written_rest, number_length, number_back, number_stays, number_rest, same_number}
 use Rattle.udf_model.proofs.Retagged.{found_by_crc, retagged_body, retagged_covers, retagged_front, retagged_identifier, retagged_length, retagged_middle, whole_by_crc}
 use Rattle.udf_space.specs.Bits.{bits_of, bytes_for, packed}

@@ -1,4 +1,4 @@
-use Rattle.std.proofs.Common.{rules, arith, ap, ◌∙◌, length, ◌≡◌, ℕ, List, replicate, refl}
+use Rattle.std.proofs.Common.{rules, arith, ap, ◌∙◌, ◌≡◌, replicate}
 use Rattle.std.proofs.lemmas.List.{with_items_is}
 use Rattle.udf_space.specs.Bits.{bits_of, bytes_for}
 use Rattle.udf_space.proofs.Places.{blank_bits}

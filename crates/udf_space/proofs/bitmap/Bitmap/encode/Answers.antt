@@ -1,4 +1,4 @@
-use Rattle.std.proofs.Common.{arith, ap, sym, ◌∙◌, ◌≡◌, ℕ, ◌+◌, ◌-◌, Bool, List, length, take, drop}
+use Rattle.std.proofs.Common.{arith, ap, sym, ◌∙◌, ◌≡◌, ℕ, ◌+◌, ◌-◌, length}
 use borrow.Rule.Slice.PartMut.{put_mid}
 use Rattle.udf_model.specs.Tag.{retagged}
 use Rattle.udf_model.specs.Bytes.{written_at}

@@ -1,4 +1,4 @@
-use Rattle.std.proofs.Common.{arith, ap, sym, ◌∙◌, ◌≡◌, ◌+◌, ◌≤◌, length, take, get_or, count_ones}
+use Rattle.std.proofs.Common.{arith, ap, ◌∙◌, ◌≡◌, length, take, get_or, count_ones}
 use Rattle.std.specs.List.{sum_by, count_by}
 use Rattle.std.proofs.lemmas.List.{take_all}
 use Rattle.udf_space.proofs.Counting.{ones_in_all, ones_below_blocks}

@@ -1,4 +1,4 @@
-use Rattle.std.proofs.Common.{rules, arith, ap, sym, ◌∙◌, ◌≡◌, ℕ, ◌+◌, ◌-◌, List, Bool, Option, Some, None, cond, true, false, length, take, drop}
+use Rattle.std.proofs.Common.{rules, arith, ap, sym, ◌∙◌, ◌≡◌, ℕ, List, Some, None, cond, true, take, drop}
 use Rattle.std.proofs.lemmas.List.{with_items_is, take-take}
 use Rattle.udf_space.specs.Bits.{bits_of, bytes_for}
 use Rattle.udf_space.specs.Area.{bitmap_in, is_bitmap}
