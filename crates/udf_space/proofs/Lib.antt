@@ -1,0 +1,4 @@
+pub mod Packing
+pub mod Places
+pub mod Counting
+pub mod Encoding
