@@ -1,12 +1,13 @@
 -- What stands in an area that a bitmap is written to.
-use Rattle.std.proofs.Common.{◌≡◌, ℕ, ◌+◌, ◌-◌, ◌^◌, ◌<◌, ◌≤◌, arith, sym, ◌∙◌, ap, Bool, true, cond, eqb, ◌&&◌, Some, None, List, ◌++◌, length, take, drop, get_or, inl}
+use Rattle.std.proofs.Common.{refl, ◌≡◌, ℕ, ◌+◌, ◌-◌, ◌^◌, ◌<◌, ◌≤◌, arith, sym, ◌∙◌, ap, Bool, true, cond, eqb, ◌&&◌, Some, None, List, ◌++◌, length, take, drop, get_or, inl}
 use Rattle.std.proofs.lemmas.Bool.{eq-eqb}
 use Rattle.std.proofs.lemmas.List.{drop-drop, get_or-take, get_or-drop}
 use borrow.Rule.Slice.PartMut.{put_mid}
 use Rattle.udf_model.specs.Bytes.{number_at, with_number, written_at}
 use Rattle.udf_model.specs.Crc.{crc_of}
-use Rattle.udf_model.specs.Tag.{crc_length, id_at, identifier, is_id, retagged, whole_id}
-use Rattle.udf_model.proofs.Written.{written_length, written_from, written_rest, number_length, number_back, number_stays, number_rest, same_number}
+use Rattle.udf_model.specs.Tag.{crc_length, id_at, identifier, is_id, retagged, whole_id, relocated, summed}
+use Rattle.udf_model.proofs.Written.{written_length, written_from, written_rest, number_length, number_back, number_stays, number_rest, one_byte, same_number}
+use Rattle.udf_model.proofs.Relocated.{by_sixteen}
 use Rattle.udf_model.proofs.Retagged.{found_by_crc, retagged_body, retagged_covers, retagged_front, retagged_identifier, retagged_length, retagged_middle, whole_by_crc}
 use Rattle.udf_space.specs.Bits.{bits_of, bytes_for, packed}
 use Rattle.udf_space.specs.Area.{bitmap_in, encoded, has_counts, headed, is_bitmap}
@@ -38,6 +39,7 @@ headed_length version serial blocks area room =
 record Fields (version serial blocks : ℕ) (area head : List ℕ) : Type 0 where
   identifier : number_at 2 head 0 ≡ 264
   version_there : version < 2 ^ 16 → number_at 2 head 2 ≡ version
+  reserved : number_at 1 head 5 ≡ 0
   serial_there : serial < 2 ^ 16 → number_at 2 head 6 ≡ serial
   bit_count : blocks < 2 ^ 32 → number_at 4 head 16 ≡ blocks
   byte_count : blocks < 2 ^ 32 → number_at 4 head 20 ≡ bytes_for blocks
@@ -74,6 +76,9 @@ fields_of version serial blocks area room =
           number_stays 4 20 n 2 2 e (omega arith) (inl (omega arith)) ∙ number_stays 4 16 blocks 2 2 d (omega arith) (inl (omega arith))
           ∙ number_stays 2 6 serial 2 2 c (omega arith) (inl (omega arith)) ∙ number_stays 1 5 0 2 2 b (omega arith) (inl (omega arith))
           ∙ number_back 2 2 version a (omega arith) (omega arith);
+      reserved =
+          number_stays 4 20 n 1 5 e (omega arith) (inl (omega arith)) ∙ number_stays 4 16 blocks 1 5 d (omega arith) (inl (omega arith))
+          ∙ number_stays 2 6 serial 1 5 c (omega arith) (inl (omega arith)) ∙ number_back 1 5 0 b (omega arith) (omega arith);
       serial_there = λ fits.
           number_stays 4 20 n 2 6 e (omega arith) (inl (omega arith)) ∙ number_stays 4 16 blocks 2 6 d (omega arith) (inl (omega arith))
           ∙ number_back 2 6 serial c (omega arith) (omega arith);
@@ -150,6 +155,25 @@ encoded_serial version serial location bits area fits room =
     same_number 2 6 (retagged location 0 head) head (λ k l m. middle_byte (retagged location 0 head) k (omega arith) (omega arith)
     ∙ ap (λ xs. get_or xs (k - 5) 0) middle ∙ sym (middle_byte head k (omega arith) (omega arith)))
     ∙ (fields_before version serial bits area room).serial_there fits
+
+no_bytes_crc : (location : ℕ) (area : List ℕ) → 16 ≤ length area → number_at 2 (retagged location 0 area) 8 ≡ 0
+unfolding retagged with_number relocated summed number_at crc_of
+no_bytes_crc location = by_sixteen (λ area. number_at 2 (retagged location 0 area) 8 ≡ 0) (λ a b c d e f g h i j k l m n o p rest. refl)
+
+pub encoded_crc : (version serial location : ℕ) (bits : List Bool) (area : List ℕ) → 24 + bytes_for (length bits) ≤ length area
+    → number_at 2 (encoded version serial location bits area) 8 ≡ 0
+unfolding encoded
+encoded_crc version serial location bits area room =
+    no_bytes_crc location (before version serial bits area) (omega (arith, before_length version serial bits area room))
+
+pub encoded_reserved : (version serial location : ℕ) (bits : List Bool) (area : List ℕ) → 24 + bytes_for (length bits) ≤ length area
+    → get_or (encoded version serial location bits area) 5 0 ≡ 0
+unfolding encoded
+encoded_reserved version serial location bits area room =
+    let head = before version serial bits area in
+    let middle = retagged_middle location 0 head (omega (arith, before_length version serial bits area room)) in
+    middle_byte (retagged location 0 head) 5 (omega arith) (omega arith) ∙ ap (λ xs. get_or xs 0 0) middle
+    ∙ sym (middle_byte head 5 (omega arith) (omega arith)) ∙ sym (one_byte head 5) ∙ (fields_before version serial bits area room).reserved
 
 -- from the tag's end on a tag made anew changes nothing
 after_tag : (location m : ℕ) (area : List ℕ) → 16 ≤ length area → drop (16 + m) (retagged location 0 area) ≡ drop (16 + m) area

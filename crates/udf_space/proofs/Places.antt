@@ -135,11 +135,12 @@ rest_bits blocks bytes long part =
     same_bits blocks (set bytes (blocks / 8) (kept_below (get_or bytes (blocks / 8) 0) (blocks % 8))) (bits_of blocks bytes) (bits_length blocks bytes)
     (λ n small. rest_low bytes blocks n long part small ∙ sym (bits_get blocks bytes n false small))
 
-pub rest_stored : (blocks : ℕ) (bytes : List ℕ) → length bytes ≡ bytes_for blocks → IsBytes bytes → blocks % 8 ≢ 0
+pub rest_stored : (blocks : ℕ) (bytes : List ℕ) → length bytes ≡ bytes_for blocks → blocks % 8 ≢ 0
+    → IsBytes (set bytes (blocks / 8) (kept_below (get_or bytes (blocks / 8) 0) (blocks % 8)))
     → IsStored blocks (set bytes (blocks / 8) (kept_below (get_or bytes (blocks / 8) 0) (blocks % 8)))
-rest_stored blocks bytes long small part = record {
+rest_stored blocks bytes long part small = record {
   long = length-set bytes (blocks / 8) (kept_below (get_or bytes (blocks / 8) 0) (blocks % 8)) ∙ long;
-  small = masked bytes (blocks / 8) (2 ^ (blocks % 8) - 1) small (omega arith);
+  small = small;
   clear = λ n large. rest_high bytes blocks n long part large;
 }
 

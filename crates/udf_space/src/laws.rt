@@ -1,5 +1,5 @@
 // What the definitions of space bitmaps mean.
-ghost use Rattle.std.specs.Prelude.{◌≡◌, ℕ, ◌+◌, ◌^◌, ◌<◌, ◌≤◌, Bool, false, Some, List, ◌++◌, length, take, drop};
+ghost use Rattle.std.specs.Prelude.{◌≡◌, ℕ, ◌+◌, ◌^◌, ◌<◌, ◌≤◌, Bool, false, Some, List, ◌++◌, length, slice_index, take, drop};
 ghost use Rattle.udf_model.specs.Bytes.{IsBytes, number_at};
 ghost use Rattle.udf_model.specs.Tag.{crc_length, id_at};
 ghost use Rattle.udf_space.specs.Bits.{bit_of, bits_of, bytes_for, packed};
@@ -15,7 +15,7 @@ pub fn bits_law()
 {}
 
 /// An area that a bitmap is written to is read as that bitmap, and is whole at the location that was given, with the
-/// version and serial number that were given and a CRC over no bytes. What stands after the bits stays.
+/// version and serial number that were given, CRC length 0 and CRC 0. What stands after the bits stays.
 pub fn encode_law()
     ensures back { (version serial location : ℕ) (bits : List Bool) (area : List ℕ) → length bits < 2 ^ 32 → 24 + bytes_for (length bits) ≤ length area
         → bitmap_in (length bits) (encoded version serial location bits area) ≡ Some bits }
@@ -27,6 +27,10 @@ pub fn encode_law()
         → number_at 2 (encoded version serial location bits area) 6 ≡ serial }
     ensures covers { (version serial location : ℕ) (bits : List Bool) (area : List ℕ) → 24 + bytes_for (length bits) ≤ length area
         → crc_length (encoded version serial location bits area) ≡ 0 }
+    ensures crc { (version serial location : ℕ) (bits : List Bool) (area : List ℕ) → 24 + bytes_for (length bits) ≤ length area
+        → number_at 2 (encoded version serial location bits area) 8 ≡ 0 }
+    ensures reserved { (version serial location : ℕ) (bits : List Bool) (area : List ℕ) → 24 + bytes_for (length bits) ≤ length area
+        → slice_index (encoded version serial location bits area) 5 ≡ 0 }
     ensures rest { (version serial location : ℕ) (bits : List Bool) (area : List ℕ) → 24 + bytes_for (length bits) ≤ length area
         → drop (24 + bytes_for (length bits)) (encoded version serial location bits area) ≡ drop (24 + bytes_for (length bits)) area }
     ensures same_length { (version serial location : ℕ) (bits : List Bool) (area : List ℕ) → 24 + bytes_for (length bits) ≤ length area

@@ -1,6 +1,5 @@
 // The bytes in which a bitmap keeps its bits.
 ghost use Rattle.std.specs.Prelude.{◌≡◌, ◌-◌, ◌<◌, ◌^◌, bit_and, length, slice_index, slice_set};
-ghost use Rattle.udf_model.specs.Bytes.{IsBytes};
 ghost use Rattle.udf_space.specs.Bits.{bits_of, bytes_for};
 ghost use Rattle.udf_space.specs.Stored.{IsStored};
 
@@ -14,12 +13,11 @@ pub(crate) fn stored_bytes(blocks: u32) -> usize
     blocks.div_ceil(BYTE_BITS) as usize
 }
 
-// Clears the bits of a byte from a place on. The proof of the caller needs that each byte is below 256.
+// Clears the bits of a byte from a place on.
 fn keep_below(bytes: &mut [u8], at: usize, place: u32)
     requires at { at < length bytes.old }
     requires place { place < 8 }
-    ensures kept { bytes.new ≡ slice_set bytes.old at (bit_and (slice_index bytes.old at) (2 ^ place - 1)) }
-    ensures small { IsBytes bytes.old }
+    ensures { bytes.new ≡ slice_set bytes.old at (bit_and (slice_index bytes.old at) (2 ^ place - 1)) }
 {
     bytes[at] &= (1u8 << place) - 1;
 }

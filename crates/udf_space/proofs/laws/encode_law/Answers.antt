@@ -1,4 +1,4 @@
-use Rattle.udf_space.proofs.Encoding.{encoded_back, encoded_placed, encoded_version, encoded_serial, encoded_covers, encoded_rest, encoded_length}
+use Rattle.udf_space.proofs.Encoding.{encoded_back, encoded_placed, encoded_version, encoded_serial, encoded_covers, encoded_rest, encoded_length, encoded_crc, encoded_reserved}
 use Rattle.udf_space.proofs.laws.encode_law.Goals as goal
 
 pub returns-clause-back : goal.returns-clause-back
@@ -21,3 +21,9 @@ returns-clause-rest c = encoded_rest
 
 pub returns-clause-same_length : goal.returns-clause-same_length
 returns-clause-same_length c = encoded_length
+
+pub returns-clause-crc : goal.returns-clause-crc
+returns-clause-crc c = encoded_crc
+
+pub returns-clause-reserved : goal.returns-clause-reserved
+returns-clause-reserved c = encoded_reserved
