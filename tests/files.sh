@@ -427,7 +427,7 @@ expect 'the block size is found by a check' 0 "$clean" -c a.img
 zero 96 16; run 'the block size is found by a repair' 1 'V3 -:96 0 5
 udffsck: a.img: repairing 6 blocks' -p a.img
 holds 'the image is whole' cmp -s a.img "$whole"
-zero 256 1; expect 'no block size is found' 4 'udffsck: a.img: refused, Anchor' -c a.img
+fresh; zero 256 1; expect 'no block size is found' 4 'udffsck: a.img: refused, Anchor' -c a.img
 
 fresh
 expect 'no words' 16 "$usage"
