@@ -1,12 +1,14 @@
--- The lawful layout of a volume with one map of type 1.
-use Rattle.std.specs.Prelude.{ℕ, Bool, true, ◌==◌, ◌&&◌, ◌||◌, ◌+◌, ◌/◌, ◌%◌, ◌^◌, nat_lt, nat_le, if◌then◌else◌, List, [], ◌∷◌, is_none}
+-- The lawful layout of a volume, and the lawful packets of its sparing table.
+use Rattle.std.specs.Prelude.{ℕ, Bool, true, ◌==◌, ◌&&◌, ◌||◌, ◌+◌, ◌/◌, ◌%◌, ◌^◌, nat_lt, nat_le, if◌then◌else◌, Option, Some, None, List, [], ◌∷◌, ◌++◌, map, is_none, is_some}
 use Rattle.std.specs.List.{list_all}
 use Rattle.udf_volume_model.specs.Sequence.{Descriptor}
 use Rattle.udf_volume_model.specs.Prevailing.{number_in}
 use Rattle.udf_volume_model.specs.Anchor.{blocks_for, places, anchor_in}
 use Rattle.udf_volume_model.specs.Kept.{KeptSequence}
-use Rattle.udf_volume_model.specs.Stated.{partition}
-use Rattle.udf_volume_model.specs.Areas.{Area, partition_area, areas_of, is_outside}
+use Rattle.udf_volume_model.specs.Stated.{partition, sparing}
+use Rattle.udf_volume_model.specs.Areas.{Area, Layout, partition_area, table_areas, areas_of, is_outside, layout_of, packets_of}
+use Rattle.udf_volume_model.specs.Maps.{SparingMap}
+use Rattle.udf_volume_model.specs.SparingTable.{prevailing_area}
 
 -- An area of no blocks is apart from every other.
 unfoldable pub is_apart : Area → Area → Bool
@@ -36,11 +38,16 @@ is_bitmap_lawful size list =
     (bitmap_bytes list == 0)
     || is_bitmap size (partition_area list).count (bitmap_bytes list) (number_in 4 (partition list) 68)
 
--- The areas lie in the image and are pairwise apart, the partition starts above block 128, and the bitmap is lawful.
+-- the partition and the sparing tables start above block 128
+unfoldable pub are_high : ℕ → List Descriptor → Bool
+are_high size list =
+    nat_lt 128 (partition_area list).start && list_all (λ area. nat_lt 128 area.start) (table_areas size list)
+
+-- The areas lie in the image and are pairwise apart, the partition and the tables start high, and the bitmap is lawful.
 unfoldable pub are_lawful : ℕ → ℕ → List Descriptor → List Area → Bool
 are_lawful size blocks list areas =
     list_all (is_inside blocks) areas
-    && (are_apart areas && (nat_lt 128 (partition_area list).start && is_bitmap_lawful size list))
+    && (are_apart areas && (are_high size list && is_bitmap_lawful size list))
 
 -- the places before one
 unfoldable pub earlier : ℕ → List ℕ → List ℕ
@@ -59,3 +66,34 @@ unfoldable pub is_lawful : ℕ → ℕ → (ℕ → List ℕ) → KeptSequence �
 is_lawful size blocks disk sequence =
     are_lawful size blocks sequence.list (areas_of size sequence.anchor sequence.list)
     && are_places_lawful size blocks disk sequence.place (areas_of size sequence.anchor sequence.list)
+
+-- the kept anchor and the places before it, as areas of one block
+unfoldable pub anchor_areas : ℕ → ℕ → List Area
+anchor_areas blocks kept = map (λ place. record { start = place; count = 1 }) (kept ∷ earlier kept (places blocks))
+
+-- a used packet lies in the image, starts above block 128, and is apart from some areas (UDF 2.50 2.2.12)
+unfoldable pub is_packet : ℕ → List Area → Area → Bool
+is_packet blocks others packet =
+    is_inside blocks packet && (nat_lt 128 packet.start && list_all (is_apart packet) others)
+
+-- each used packet is one apart from the areas, the kept anchor and the places before it, and they are pairwise apart
+unfoldable pub are_packets : ℕ → ℕ → List Area → List Area → Bool
+are_packets blocks kept areas packets =
+    list_all (is_packet blocks (areas ++ anchor_areas blocks kept)) packets && are_apart packets
+
+abbrev pub has_table_by : ℕ → (ℕ → List ℕ) → Option SparingMap → Bool
+has_table_by size disk None = true
+has_table_by size disk (Some sparing) = is_some (prevailing_area size disk sparing)
+
+-- some listed sparing table is whole, where a map lists any
+unfoldable pub has_table : ℕ → (ℕ → List ℕ) → List Descriptor → Bool
+has_table size disk list = has_table_by size disk (sparing list)
+
+abbrev pub are_packets_of : ℕ → ℕ → Layout → Bool
+are_packets_of blocks kept layout = are_packets blocks kept layout.areas (packets_of layout.table)
+
+-- a sparing table prevails, where there is to be one, and its used packets are lawful
+unfoldable pub is_spared : ℕ → ℕ → (ℕ → List ℕ) → KeptSequence → Bool
+is_spared size blocks disk sequence =
+    has_table size disk sequence.list
+    && are_packets_of blocks sequence.place (layout_of size disk sequence.anchor sequence.list)

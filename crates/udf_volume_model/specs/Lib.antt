@@ -3,9 +3,13 @@ pub mod Prevailing
 pub mod Anchor
 pub mod Size
 pub mod Kept
+pub mod Maps
 pub mod Stated
+pub mod SparingTable
 pub mod Areas
 pub mod Rules
+pub mod SparingRule
+pub mod AllRules
 pub mod Profile
 pub mod Layout
 pub mod Edits

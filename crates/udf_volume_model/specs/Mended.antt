@@ -1,9 +1,12 @@
--- What the mends of the rules on anchors and on sequences write.
+-- What the mends of the rules on anchors and on sequences write, and all that the mends of a volume's rules do.
 use Rattle.std.specs.Prelude.{ℕ, zero, suc, Option, Some, None, ◌+◌, ◌-◌, if◌then◌else◌, List, [], ◌∷◌, ◌++◌, length, map, replicate, slice_index}
 use Rattle.udf_model.specs.Tag.{whole_id, is_id, relocated, retagged}
 use Rattle.udf_volume_model.specs.Prevailing.{prevailing_index}
 use Rattle.udf_volume_model.specs.Kept.{KeptSequence, kept, other}
+use Rattle.udf_volume_model.specs.Areas.{Layout}
 use Rattle.udf_volume_model.specs.Rules.{eligible, bad_of, anchors_hold, sequences_hold}
+use Rattle.udf_volume_model.specs.SparingRule.{table_edits}
+use Rattle.udf_volume_model.specs.AllRules.{layout_in}
 
 -- the block of the prevailing logical volume descriptor
 abbrev pub block_by : (ℕ → List ℕ) → ℕ → Option ℕ → List ℕ
@@ -35,10 +38,12 @@ sequence_edits size disk sequence =
     else copies size disk (logical_block disk sequence) (kept sequence).start (other sequence).start (length sequence.list)
 
 -- where the rule on anchors is broken, each eligible place that is not good gets the kept anchor, relocated
-unfoldable pub anchor_edits : ℕ → ℕ → (ℕ → List ℕ) → KeptSequence → List (ℕ × List ℕ)
-anchor_edits size blocks disk sequence =
-    if anchors_hold size blocks disk sequence then []
-    else map (λ place. (place, relocated place (disk sequence.place))) (bad_of disk sequence (eligible size blocks sequence))
+unfoldable pub anchor_edits : ℕ → Layout → (ℕ → List ℕ) → KeptSequence → List (ℕ × List ℕ)
+anchor_edits blocks layout disk sequence =
+    if anchors_hold blocks layout disk sequence then []
+    else map (λ place. (place, relocated place (disk sequence.place))) (bad_of disk sequence (eligible blocks layout))
 
 unfoldable pub edits : ℕ → ℕ → (ℕ → List ℕ) → KeptSequence → List (ℕ × List ℕ)
-edits size blocks disk sequence = sequence_edits size disk sequence ++ anchor_edits size blocks disk sequence
+edits size blocks disk sequence =
+    sequence_edits size disk sequence
+    ++ (anchor_edits blocks (layout_in size disk sequence) disk sequence ++ table_edits size disk sequence.list)

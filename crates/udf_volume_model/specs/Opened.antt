@@ -6,14 +6,15 @@ use Rattle.udf_model.specs.Image.{block_of, blocks_in}
 use Rattle.udf_volume_model.specs.Kept.{KeptSequence, kept, kept_sequence_of}
 use Rattle.udf_volume_model.specs.Areas.{Area, covers}
 use Rattle.udf_volume_model.specs.Profile.{is_profile, is_protected}
-use Rattle.udf_volume_model.specs.Layout.{is_lawful}
-use Rattle.udf_volume_model.specs.Rules.{rules_hold}
+use Rattle.udf_volume_model.specs.Layout.{is_lawful, is_spared}
+use Rattle.udf_volume_model.specs.AllRules.{rules_hold}
 use Rattle.udf_volume_model.specs.Edits.{put_blocks}
 use Rattle.udf_volume_model.specs.Mended.{edits}
 
 abbrev pub is_opened_by : ℕ → ℕ → (ℕ → List ℕ) → Option KeptSequence → Bool
 is_opened_by size blocks disk None = false
-is_opened_by size blocks disk (Some sequence) = is_profile size sequence.list && is_lawful size blocks disk sequence
+is_opened_by size blocks disk (Some sequence) =
+    is_profile size sequence.list && (is_lawful size blocks disk sequence && is_spared size blocks disk sequence)
 
 -- a volume is opened: no refusal of its description applies
 unfoldable pub is_opened : ℕ → List ℕ → Bool

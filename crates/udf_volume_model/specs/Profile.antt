@@ -5,7 +5,7 @@ use Rattle.std.specs.Str.{bytes_eq}
 use Rattle.udf_volume_model.specs.Sequence.{Descriptor}
 use Rattle.udf_volume_model.specs.Prevailing.{number_in}
 use Rattle.udf_volume_model.specs.Kept.{has_id}
-use Rattle.udf_volume_model.specs.Stated.{logical, partition, is_built}
+use Rattle.udf_volume_model.specs.Stated.{logical, partition, has_maps, is_built}
 
 -- the block size (3/10.6.5), of the bytes of a logical volume descriptor, and of the one that prevails
 abbrev pub states_block_size : ℕ → List ℕ → Bool
@@ -47,11 +47,12 @@ names_no_tables body = is_absent body 56 && (is_absent body 72 && (is_absent bod
 unfoldable pub has_no_tables : List Descriptor → Bool
 has_no_tables list = names_no_tables (partition list)
 
--- the tests above all pass, and the maps are built
+-- the tests above all pass, and the maps are lawful and built
 unfoldable pub is_profile : ℕ → List Descriptor → Bool
 is_profile size list =
     has_block_size size list
-    && (has_domain list && (has_revision list && (not (has_pointer list) && (is_built list && has_no_tables list))))
+    && (has_domain list
+    && (has_revision list && (not (has_pointer list) && (has_maps list && (is_built list && has_no_tables list)))))
 
 -- hard or soft write protection stands in the domain's suffix (UDF 2.1.5.3)
 unfoldable pub is_guarded_list : List Descriptor → Bool

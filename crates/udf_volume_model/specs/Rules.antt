@@ -1,5 +1,5 @@
 -- The rules on anchors (ECMA-167 3/8.4.2.1) and on sequences (3/8.4.2, 3/8.4.3), as relations on an image, and what is
--- found where one is broken.
+-- found where one is broken. Places are ruled by what the volume takes of the image.
 use Rattle.std.specs.Prelude.{ℕ, Bool, true, false, Option, Some, None, not, ◌==◌, ◌&&◌, ◌||◌, ◌-◌, nat_lt, nat_le, if◌then◌else◌, List, [], ◌∷◌, ◌++◌, length, filter, map}
 use Rattle.std.specs.List.{list_all}
 use Rattle.std.specs.Str.{bytes_eq}
@@ -8,7 +8,7 @@ use Rattle.udf_volume_model.specs.Sequence.{Descriptor, views, front_of}
 use Rattle.udf_volume_model.specs.Prevailing.{subject_of, prevailing}
 use Rattle.udf_volume_model.specs.Anchor.{Extent, Anchor, blocks_of, named_by}
 use Rattle.udf_volume_model.specs.Kept.{KeptSequence, other, sequence_at, limit_of}
-use Rattle.udf_volume_model.specs.Areas.{Area, areas_of, is_outside}
+use Rattle.udf_volume_model.specs.Areas.{Area, Layout, taken, is_outside}
 
 -- the places in ascending order, in an image of so many blocks
 unfoldable pub ascending_places : ℕ → List ℕ
@@ -23,9 +23,9 @@ ascending_places blocks =
 unfoldable pub is_eligible : List Area → ℕ → Bool
 is_eligible areas place = nat_le 256 place && is_outside areas place
 
--- the places that are at least 256 and lie in no area
-unfoldable pub eligible : ℕ → ℕ → KeptSequence → List ℕ
-eligible size blocks sequence = filter (is_eligible (areas_of size sequence.anchor sequence.list)) (ascending_places blocks)
+-- the places that are at least 256 and lie in no area and in no used packet
+unfoldable pub eligible : ℕ → Layout → List ℕ
+eligible blocks layout = filter (is_eligible (taken layout)) (ascending_places blocks)
 
 unfoldable pub same_extent : Extent → Extent → Bool
 same_extent a b = (a.bytes == b.bytes) && (a.start == b.start)
@@ -50,8 +50,8 @@ suffice anchor disk places =
     || list_all (λ place. is_good anchor place (disk place)) places
 
 -- The rule on anchors: the eligible places suffice.
-unfoldable pub anchors_hold : ℕ → ℕ → (ℕ → List ℕ) → KeptSequence → Bool
-anchors_hold size blocks disk sequence = suffice sequence.anchor disk (eligible size blocks sequence)
+unfoldable pub anchors_hold : ℕ → Layout → (ℕ → List ℕ) → KeptSequence → Bool
+anchors_hold blocks layout disk sequence = suffice sequence.anchor disk (eligible blocks layout)
 
 abbrev pub same_descriptor : Option Descriptor → Option Descriptor → Bool
 same_descriptor None None = true
@@ -90,17 +90,17 @@ pub record Finding : Type 0 where
   pub second : ℕ
 
 -- each eligible place that is not good, with the numbers of good and of eligible ones
-unfoldable pub anchor_findings : ℕ → ℕ → (ℕ → List ℕ) → KeptSequence → List Finding
-anchor_findings size blocks disk sequence =
-    if anchors_hold size blocks disk sequence then []
+unfoldable pub anchor_findings : ℕ → Layout → (ℕ → List ℕ) → KeptSequence → List Finding
+anchor_findings blocks layout disk sequence =
+    if anchors_hold blocks layout disk sequence then []
     else map
     (λ place. record {
       rule = 2;
       place = Sector place;
-      first = length (good_of disk sequence (eligible size blocks sequence));
-      second = length (eligible size blocks sequence);
+      first = length (good_of disk sequence (eligible blocks layout));
+      second = length (eligible blocks layout);
     })
-    (bad_of disk sequence (eligible size blocks sequence))
+    (bad_of disk sequence (eligible blocks layout))
 
 -- the first sector of the other extent, with the number of descriptors read there and that of the kept ones
 unfoldable pub sequence_findings : ℕ → (ℕ → List ℕ) → KeptSequence → List Finding
@@ -112,10 +112,3 @@ sequence_findings size disk sequence =
       first = length (front_of (views disk (other sequence).start (blocks_of size (other sequence))));
       second = length sequence.list;
     } ∷ []
-
-unfoldable pub rules_hold : ℕ → ℕ → (ℕ → List ℕ) → KeptSequence → Bool
-rules_hold size blocks disk sequence = anchors_hold size blocks disk sequence && sequences_hold size disk sequence
-
--- in the order of rules, then of sectors
-unfoldable pub findings : ℕ → ℕ → (ℕ → List ℕ) → KeptSequence → List Finding
-findings size blocks disk sequence = anchor_findings size blocks disk sequence ++ sequence_findings size disk sequence

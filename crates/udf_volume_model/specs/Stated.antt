@@ -1,7 +1,17 @@
 -- What the prevailing descriptors of a sequence state. Offsets are those in the descriptor, from its tag's first byte.
-use Rattle.std.specs.Prelude.{ℕ, Bool, Option, Some, None, ◌==◌, ◌&&◌, ◌-◌, List, [], ◌++◌, take, drop, slice_index, replicate, codes, is_some}
+use Rattle.std.specs.Prelude.{ℕ, Bool, true, false, Option, Some, None, ◌&&◌, List, [], ◌++◌, replicate, codes, is_some, is_none}
 use Rattle.udf_volume_model.specs.Sequence.{Descriptor}
-use Rattle.udf_volume_model.specs.Prevailing.{number_in, prevailing}
+use Rattle.udf_volume_model.specs.Prevailing.{prevailing}
+use Rattle.udf_volume_model.specs.Maps.{SparingMap, PartitionMap, Upper, Absent, OverMetadata, OverVirtual, Shape, first_map, shape_of, is_base_lawful}
+
+abbrev pub number_by : Option PartitionMap → List ℕ
+number_by None = []
+number_by (Some first) = first.number
+
+abbrev pub is_built_over : Upper → Bool
+is_built_over Absent = true
+is_built_over OverMetadata = false
+is_built_over OverVirtual = false
 
 abbrev pub body_of : Option Descriptor → List ℕ
 body_of None = []
@@ -11,24 +21,44 @@ body_of (Some descriptor) = descriptor.body
 unfoldable pub logical : List Descriptor → List ℕ
 logical list = body_of (prevailing 6 [] list)
 
--- the partition number of its first map, where that is of type 1 (3/10.7.2.4), as its two bytes
-unfoldable pub map_number : List ℕ → List ℕ
-map_number body = take 2 (drop (444 - 16) body)
+-- the shape that its maps make
+abbrev pub shape : List Descriptor → Option Shape
+shape list = shape_of (logical list)
+
+-- the partition number of its first map, as its two bytes
+unfoldable pub partition_number : List ℕ → List ℕ
+partition_number body = number_by (first_map body)
 
 -- the prevailing partition descriptor with that number (3/10.5)
 abbrev pub mapped_partition : List Descriptor → Option Descriptor
-mapped_partition list = prevailing 5 (map_number (logical list)) list
+mapped_partition list = prevailing 5 (partition_number (logical list)) list
 
 unfoldable pub partition : List Descriptor → List ℕ
 partition list = body_of (mapped_partition list)
 
--- one partition map (3/10.6.8), of type 1 (3/10.7.2.1)
-unfoldable pub has_one_map : List ℕ → Bool
-has_one_map body = (number_in 4 body 268 == 1) && (slice_index body (440 - 16) == 1)
+-- what the base map says of sparing
+abbrev pub sparing_by : Option Shape → Option SparingMap
+sparing_by None = None
+sparing_by (Some shape) = shape.sparing
 
--- such a map, whose partition is described
+unfoldable pub sparing : List Descriptor → Option SparingMap
+sparing list = sparing_by (shape_of (logical list))
+
+abbrev pub is_lawful_shape : Option Shape → Bool
+is_lawful_shape None = false
+is_lawful_shape (Some shape) = is_base_lawful shape.sparing
+
+-- the maps make a shape, their partition is described, and sparing is lawful
+unfoldable pub has_maps : List Descriptor → Bool
+has_maps list = is_lawful_shape (shape_of (logical list)) && is_some (mapped_partition list)
+
+abbrev pub is_built_shape : Option Shape → Bool
+is_built_shape None = false
+is_built_shape (Some shape) = is_built_over shape.upper && is_none shape.sparing
+
+-- one physical partition: no sparable base, and no metadata and no virtual partition over it
 unfoldable pub is_built : List Descriptor → Bool
-is_built list = has_one_map (logical list) && is_some (mapped_partition list)
+is_built list = is_built_shape (shape_of (logical list))
 
 -- the identifier of the implementation use descriptor with the volume's names (UDF 2.2.7), padded with zeros
 unfoldable pub volume_information : List ℕ
