@@ -1,19 +1,23 @@
 -- All that a sparing table says rests on the front of its area.
-use Rattle.std.proofs.Common.{◌≡◌, ℕ, ◌+◌, ◌-◌, ◌*◌, ◌%◌, ◌<◌, ◌≤◌, ◌==◌, min, max, Bool, true, false, ◌&&◌, nat_le, cond, length, take, drop, arith, refl, sym, ap, ◌∙◌, Some, None, List, ◌∷◌, map, inl, inr, zero, suc}
+use Rattle.std.proofs.Common.{◌≡◌, ℕ, ◌+◌, ◌-◌, ◌*◌, ◌%◌, ◌<◌, ◌≤◌, ◌==◌, min, max, Bool, true, false, ◌&&◌, nat_le, cond, length, take, drop, arith, refl, sym, ap, ◌∙◌, Some, None, List, ◌∷◌, ◌++◌, ◌/◌, map, inl, inr, zero, suc}
 use Rattle.std.specs.List.{range_with_len}
 use Rattle.std.specs.Prelude.{codes, slice_index, sum}
 use Rattle.std.specs.Str.{bytes_eq}
 use Rattle.std.proofs.lemmas.Bool.Decides.{nat_tests}
 use Rattle.udf_model.specs.Crc.{crc_of}
 use Rattle.udf_field.specs.FieldView.{entity_is, entity_name, padded}
-use Rattle.std.proofs.lemmas.List.{take_all, get_or-take, take-take, drop-take, length-take}
+use Rattle.std.proofs.lemmas.List.{take_all, get_or-take, take-take, drop-take, drop-drop, length-take}
+use Rattle.std.proofs.Math.Seq.{take-add}
 use Rattle.std.proofs.Math.Nat.{mod-eq-sub-div-mul, mod-lt}
 use Rattle.std.proofs.lemmas.Bool.{cases_lt}
 use Rattle.udf_model.specs.Bytes.{number_at}
+use Rattle.udf_model.specs.Image.{block_of}
+use Rattle.udf_volume_model.specs.Anchor.{blocks_for}
 use Rattle.udf_model.specs.Tag.{checksum_of, covered, crc_length, id_at, identifier, is_id, is_whole, location}
 use Rattle.udf_model.proofs.Written.{same_number}
 use Rattle.udf_layer.specs.Fronts.{front_length, table_front}
-use Rattle.udf_layer.specs.Tables.{area_at, area_bytes, entries, entry_at, entry_count, is_table, sequence_number}
+use Rattle.udf_layer.specs.Tables.{area_bytes}
+use Rattle.udf_volume_model.specs.SparingTable.{bytes_from, entries, entry_at, entry_count, is_table, sequence_number, table_area}
 
 -- the bytes of a table lie in its blocks
 pub area_large : (size bytes : ℕ) → 512 ≤ size → bytes ≤ area_bytes size bytes
@@ -32,11 +36,35 @@ same_length most area h =
     ap (λ n. max (16 + n) (56 + 8 * entry_count (take most area))) (front_number most 2 10 area (omega arith))
     ∙ ap (λ n. max (16 + crc_length area) (56 + 8 * n)) (front_number most 2 48 area (omega arith))
 
+-- the bytes of some blocks are those of the image
+bytes_are : (size : ℕ) (image : List ℕ) (at blocks : ℕ) → bytes_from (block_of size image) at blocks ≡ take (blocks * size) (drop (at * size) image)
+unfolding bytes_from block_of
+bytes_are size image at zero = ap (λ n. take n (drop (at * size) image)) none
+  where
+    none : 0 ≡ 0 * size
+    none = omega arith
+bytes_are size image at (suc blocks) =
+    ap (λ rest. take size (drop (at * size) image) ++ rest) (bytes_are size image (at + 1) blocks)
+    ∙ ap (λ n. take size (drop (at * size) image) ++ take (blocks * size) (drop n image)) (next at size)
+    ∙ ap (λ rest. take size (drop (at * size) image) ++ take (blocks * size) rest) (sym (drop-drop size (at * size) image))
+    ∙ sym (take-add size (blocks * size) (drop (at * size) image))
+    ∙ ap (λ n. take n (drop (at * size) image)) (more size blocks)
+  where
+    next : (at size : ℕ) → (at + 1) * size ≡ at * size + size
+    next at size = omega arith
+
+    more : (size blocks : ℕ) → size + blocks * size ≡ suc blocks * size
+    more size blocks = omega arith
+
+-- the area of a table is part of the image
+pub area_is : (size bytes at : ℕ) (image : List ℕ) → table_area size (block_of size image) bytes at ≡ take (area_bytes size bytes) (drop (at * size) image)
+unfolding table_area blocks_for area_bytes
+area_is size bytes at image = bytes_are size image at ((bytes + (size - 1)) / size)
+
 -- what is read is the front
 pub is_front : (size bytes at start needed many : ℕ) (image front : List ℕ) → 512 ≤ size → 56 ≤ bytes → start ≡ at * size
     → needed ≡ front_length (take 56 (drop start image)) → many ≡ min (area_bytes size bytes) needed → front ≡ take many (drop start image)
-    → front ≡ table_front (area_at size image bytes at)
-unfolding area_at
+    → front ≡ table_front (table_area size (block_of size image) bytes at)
 is_front size bytes at start needed many image front large some e f g h =
     let room : 56 ≤ area_bytes size bytes = omega (arith, area_large size bytes large) in
     let area : List ℕ = take (area_bytes size bytes) (drop (at * size) image) in
@@ -45,6 +73,7 @@ is_front size bytes at start needed many image front large some e f g h =
     ∙ ap front_length (sym (take-take 56 (area_bytes size bytes) (drop (at * size) image) room))
     ∙ same_length 56 area (omega arith) in
     h ∙ ap (λ s. take many (drop s image)) e ∙ cut (area_bytes size bytes) needed many (drop (at * size) image) g ∙ ap (λ n. take n area) same
+    ∙ ap table_front (sym (area_is size bytes at image))
   where
     cut : (room needed many : ℕ) (rest : List ℕ) → many ≡ min room needed → take many rest ≡ take needed (take room rest)
     cut room needed many rest g = elim (cases_lt needed room) [

@@ -1,8 +1,9 @@
 -- Of some tables one prevails, or none is whole.
 use Rattle.std.proofs.Common.{◌≡◌, ◌⊎◌, inl, inr, ℕ, zero, suc, ◌+◌, ◌<◌, ◌≤◌, arith, refl, sym, ◌∙◌, subst, Option, Some, None}
 use Rattle.std.proofs.lemmas.Bool.{cases_lt}
-use Rattle.udf_layer.specs.Prevailing.{Prevails, prevailing_index}
+use Rattle.udf_layer.specs.Prevailing.{Prevails}
 use Rattle.udf_layer.proofs.Prevails.{highest_prevails, none_prevails}
+use Rattle.udf_volume_model.specs.SparingTable.{prevailing_table}
 
 module _ (numbers : ℕ → Option ℕ) where
   abbrev NoneWhole : ℕ → Type 0
@@ -72,7 +73,7 @@ module _ (numbers : ℕ → Option ℕ) where
       let P : ℕ → Type 0 = λ c. NoneWhole c ⊎ ((best : ℕ) × Prevails numbers c best) in
       subst P same (one_more n (numbers n) refl (none_or_best n))
 
-  pub prevails : (count best : ℕ) → prevailing_index numbers count ≡ Some best → Prevails numbers count best
+  pub prevails : (count best : ℕ) → prevailing_table numbers count ≡ Some best → Prevails numbers count best
   prevails count best e = elim (none_or_best count) [
     | inl none ↦ let no = none_prevails numbers count none in let s : Some best ≡ None = sym e ∙ no in absurd (cc)
     | inr w ↦ let yes = highest_prevails numbers count w.0 w.1 in
@@ -80,7 +81,7 @@ module _ (numbers : ℕ → Option ℕ) where
         subst (Prevails numbers count) same w.1
   ]
 
-  pub none_whole : (count : ℕ) → prevailing_index numbers count ≡ None → NoneWhole count
+  pub none_whole : (count : ℕ) → prevailing_table numbers count ≡ None → NoneWhole count
   none_whole count e = elim (none_or_best count) [
     | inl none ↦ none
     | inr w ↦ let yes = highest_prevails numbers count w.0 w.1 in let s : Some w.0 ≡ None = sym yes ∙ e in absurd (cc)

@@ -7,9 +7,10 @@ use Rattle.std.proofs.lemmas.Option.{slice_get_past, slice_get-get_or}
 use Rattle.std.proofs.lemmas.List.Sums.{position_or_len_is, list_all-from_AllPass}
 use Rattle.std.proofs.lemmas.List.Folds.{list_all_at, find_at}
 use Rattle.std.proofs.lemmas.List.FromFn.{length-range_with_len, get_or-range_with_len}
-use Rattle.udf_layer.specs.Prevailing.{Prevails, at_most, is_highest, is_top, prevailing_index}
+use Rattle.udf_layer.specs.Prevailing.{Prevails}
 use Rattle.udf_layer.specs.Read.{BestAt}
 use Rattle.udf_layer.specs.declared.whole_table.WholeTable.{WholeTable}
+use Rattle.udf_volume_model.specs.SparingTable.{at_most, is_highest, is_top, prevailing_table}
 
 at_most_true : (o : Option ℕ) (n : ℕ) → ((m : ℕ) → o ≡ Some m → m ≤ n) → at_most o n ≡ true
 at_most_true None n h = refl
@@ -24,8 +25,8 @@ module _ (numbers : ℕ → Option ℕ) (count : ℕ) where
 
   -- the first that passes
   first_is : (best : ℕ) → best < count → is_highest numbers count best ≡ true
-      → ((k : ℕ) → k < best → is_highest numbers count k ≡ false) → prevailing_index numbers count ≡ Some best
-  unfolding prevailing_index
+      → ((k : ℕ) → k < best → is_highest numbers count k ≡ false) → prevailing_table numbers count ≡ Some best
+  unfolding prevailing_table
   first_is best inside passes fails =
       let room : best < length (range_with_len 0 count) = omega (arith, length-range_with_len 0 count) in
       find_at (is_highest numbers count) (range_with_len 0 count)
@@ -34,8 +35,8 @@ module _ (numbers : ℕ → Option ℕ) (count : ℕ) where
       (λ h. ap (is_highest numbers count) (item best 0 inside) ∙ passes))
       ∙ slice_get-get_or (range_with_len 0 count) best 0 room ∙ ap (λ (n : ℕ). Some n) (item best 0 inside)
 
-  none_is : ((k : ℕ) → k < count → is_highest numbers count k ≡ false) → prevailing_index numbers count ≡ None
-  unfolding prevailing_index
+  none_is : ((k : ℕ) → k < count → is_highest numbers count k ≡ false) → prevailing_table numbers count ≡ None
+  unfolding prevailing_table
   none_is fails =
       find_at (is_highest numbers count) (range_with_len 0 count)
       ∙ ap (slice_get (range_with_len 0 count)) (position_or_len_is (is_highest numbers count) (range_with_len 0 count) (length (range_with_len 0 count)) 0 (omega arith)
@@ -67,12 +68,12 @@ module _ (numbers : ℕ → Option ℕ) (count : ℕ) where
   earlier_fails k best n None e inside f less = low k e
   earlier_fails k best n (Some m) e inside f less = lower k m best n e inside f (less m e)
 
-  pub highest_prevails : (best : ℕ) → Prevails numbers count best → prevailing_index numbers count ≡ Some best
+  pub highest_prevails : (best : ℕ) → Prevails numbers count best → prevailing_table numbers count ≡ Some best
   highest_prevails best is =
       first_is best is.within (high best is.number is.whole (λ k m h e. is.highest k h m e))
       (λ k h. earlier_fails k best is.number (numbers k) refl is.within is.whole (λ m e. is.earliest k m h e))
 
-  pub best_prevails : (lists : ℕ → List (ℕ × ℕ)) (table : WholeTable) (best : ℕ) → BestAt numbers lists count table best → prevailing_index numbers count ≡ Some best
+  pub best_prevails : (lists : ℕ → List (ℕ × ℕ)) (table : WholeTable) (best : ℕ) → BestAt numbers lists count table best → prevailing_table numbers count ≡ Some best
   best_prevails lists table best is = highest_prevails best (record {
     within = is.within;
     number = table.number;
@@ -81,5 +82,5 @@ module _ (numbers : ℕ → Option ℕ) (count : ℕ) where
     earliest = is.earliest;
   })
 
-  pub none_prevails : ((k : ℕ) → k < count → numbers k ≡ None) → prevailing_index numbers count ≡ None
+  pub none_prevails : ((k : ℕ) → k < count → numbers k ≡ None) → prevailing_table numbers count ≡ None
   none_prevails none = none_is (λ k h. low k (none k h))

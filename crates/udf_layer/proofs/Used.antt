@@ -6,8 +6,8 @@ use Rattle.std.specs.Result.{IfOk}
 use Rattle.std.proofs.lemmas.Bool.Decides.{nat_tests}
 use Rattle.std.proofs.lemmas.List.{append-nil}
 use Rattle.std.proofs.lemmas.List.Elements.{filter-append}
-use Rattle.udf_layer.specs.Tables.{firsts, is_original, used_pairs}
 use Rattle.udf_layer.specs.Indexes.{mapped_from}
+use Rattle.udf_volume_model.specs.SparingTable.{firsts, is_original, used_pairs}
 
 -- the entries of an original
 abbrev of : ℕ → ℕ × ℕ → Bool

@@ -4,11 +4,13 @@ use Rattle.std.specs.Prelude.{codes}
 use Rattle.std.proofs.lemmas.List.{length-take, length-drop}
 use Rattle.std.proofs.lemmas.Bool.{and_parts}
 use Rattle.std.proofs.lemmas.Bool.Decides.{nat_tests}
+use Rattle.udf_model.specs.Image.{block_of}
 use Rattle.udf_model.specs.Tag.{crc_length, id_at, is_id}
 use Rattle.udf_field.specs.FieldView.{entity_is}
 use Rattle.udf_layer.specs.Fronts.{front_length, table_front}
-use Rattle.udf_layer.specs.Tables.{area_at, area_bytes, entries, entry_count, is_table, sequence_number, table_number}
-use Rattle.udf_layer.proofs.AreaFronts.{area_large, same_count, same_entries, same_sequence, same_table}
+use Rattle.udf_layer.specs.Tables.{area_bytes}
+use Rattle.udf_layer.proofs.AreaFronts.{area_is, area_large, same_count, same_entries, same_sequence, same_table}
+use Rattle.udf_volume_model.specs.SparingTable.{entries, entry_count, is_table, sequence_number, table_area, table_number}
 
 le_true : (a b : ℕ) → nat_le a b ≡ true → a ≤ b
 le_true a b h = grind (arith, nat_tests)
@@ -70,7 +72,6 @@ module _ (bytes at : ℕ) (area front : List ℕ) (is : front ≡ table_front ar
   not_read fails = ap (λ b. cond b (Some (sequence_number area)) None) (sym (same_test (is_table bytes at area) refl) ∙ fails)
 
 -- the bytes of a table lie in its area, where that lies in the image
-pub bytes_inside : (size bytes at : ℕ) (image : List ℕ) → 512 ≤ size → at * size + area_bytes size bytes ≤ length image → bytes ≤ length (area_at size image bytes at)
-unfolding area_at
+pub bytes_inside : (size bytes at : ℕ) (image : List ℕ) → 512 ≤ size → at * size + area_bytes size bytes ≤ length image → bytes ≤ length (table_area size (block_of size image) bytes at)
 bytes_inside size bytes at image large inside =
-    omega (arith, area_large size bytes large, length-take (area_bytes size bytes) (drop (at * size) image), length-drop (at * size) image)
+    omega (arith, ap (λ (l : List ℕ). length l) (area_is size bytes at image), area_large size bytes large, length-take (area_bytes size bytes) (drop (at * size) image), length-drop (at * size) image)

@@ -1,7 +1,7 @@
 -- The front of a sparing table's area.
 use Rattle.std.specs.Prelude.{ℕ, ◌+◌, ◌*◌, max, List, take}
 use Rattle.udf_model.specs.Tag.{crc_length}
-use Rattle.udf_layer.specs.Tables.{entry_count}
+use Rattle.udf_volume_model.specs.SparingTable.{entry_count}
 
 -- The front of an area on which all that a table says rests: the bytes that its tag's CRC covers, and its entries.
 unfoldable pub front_length : List ℕ → ℕ

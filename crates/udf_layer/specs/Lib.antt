@@ -3,7 +3,6 @@ pub mod StandsAt
 pub mod Physicals
 pub mod Lone
 pub mod Packets
-pub mod Table
 pub mod Tables
 pub mod Fronts
 pub mod Prevailing

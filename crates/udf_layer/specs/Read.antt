@@ -6,8 +6,7 @@ use Rattle.udf_layer.specs.declared.missing.LayerStop.TheVariants.{Fault, Memory
 use Rattle.udf_layer.specs.declared.missing.LayerStop.TheVariants as stops
 use Rattle.udf_layer.specs.declared.missing.Missing.TheVariants as missing
 use Rattle.udf_layer.specs.declared.maps.SparingMap.{SparingMap}
-use Rattle.udf_layer.specs.Table.{Table}
-use Rattle.udf_layer.specs.Tables.{entries, used_pairs}
+use Rattle.udf_volume_model.specs.SparingTable.{Table, entries, used_pairs}
 
 -- a table that was read has this number, where one is whole, and these entries
 abbrev pub IsRead : Option ℕ → List (ℕ × ℕ) → Option WholeTable → Type 0

@@ -1,6 +1,6 @@
 // The entries of a sparing table that are used (UDF 2.50 2.2.12).
 ghost use Rattle.std.specs.Prelude.{◌≡◌, ◌+◌, ◌*◌, ◌++◌, ◌∷◌, [], ◌<◌, ◌≤◌, ◌^◌, ℕ, List, IfOk, length};
-ghost use Rattle.udf_layer.specs.Tables.{entries, entry_at, entry_count, is_original, used_pairs};
+ghost use Rattle.udf_volume_model.specs.SparingTable.{entries, entry_at, entry_count, is_original, used_pairs};
 
 use crate::SparingTable;
 use crate::whole_table::{COUNT_AT, ENTRY_BYTES, HEAD_BYTES};
@@ -11,7 +11,7 @@ use udf_field::Fields;
 const MAPPED_AT: usize = 4;
 
 // Original and mapped location of an entry.
-#[tactic(auto, unfolding(crate::specs::Tables::entry_at))]
+#[tactic(auto, unfolding(udf_volume_model::specs::SparingTable::entry_at))]
 fn entry(table: &[u8], i: u16) -> (u32, u32)
     requires { 64 + 8 * i ≤ length table.now }
     ensures { result ≡ entry_at table.now i }
@@ -22,7 +22,7 @@ fn entry(table: &[u8], i: u16) -> (u32, u32)
 }
 
 // Whether an original is the first block of a packet of a partition of so many blocks.
-#[tactic(auto, unfolding(crate::specs::Tables::is_original))]
+#[tactic(auto, unfolding(udf_volume_model::specs::SparingTable::is_original))]
 fn is_packet(packet: u32, blocks: u32, original: u32) -> bool
     requires { 0 < packet }
     ensures { result ≡ is_original packet blocks original }

@@ -17,7 +17,9 @@ pub enum ProfileItem {
     Revision,
     /// A volume descriptor pointer.
     VolumePointer,
-    /// Partition maps that are not built yet: other than one map of type 1 whose partition is described.
+    /// Partition maps of none of the five shapes, whose partition is not described, or whose packets or sparing tables are none.
+    PartitionMaps,
+    /// A partition that is not built yet: a sparable, a metadata or a virtual one.
     Unbuilt,
     /// A space table, an integrity table or freed space.
     SpaceTables,

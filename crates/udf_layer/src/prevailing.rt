@@ -2,12 +2,14 @@
 ghost use Rattle.std.specs.Prelude.{◌≡◌, ◌↔◌, ◌+◌, ◌*◌, ◌<◌, ◌≤◌, ℕ, List, IfOk, IfErr, IsErrOf, Option, Some, None, length};
 ghost use Rattle.udf_outside.specs.Files.{IsAttached};
 ghost use Rattle.udf_outside.specs.Reads.{OnlyReads};
+ghost use Rattle.udf_outside.specs.Sectors.{disk_of};
 ghost use Rattle.udf_outside.specs.Stops.{bytes_of, slice_of};
 ghost use Rattle.udf_outside.specs.declared.bench.Role.TheVariants.{Image};
 ghost use Rattle.udf_layer.specs.Fronts.{front_length, table_front};
-ghost use Rattle.udf_layer.specs.Prevailing.{IsTableMap, Prevails, listed_area, listed_number, prevailing_index, table_stated};
+ghost use Rattle.udf_layer.specs.Prevailing.{IsTableMap, Prevails};
 ghost use Rattle.udf_layer.specs.Read.{IsBest, IsRead, IsTableStop, IsUsedTable};
-ghost use Rattle.udf_layer.specs.Tables.{area_at, area_bytes, entries, table_number};
+ghost use Rattle.udf_layer.specs.Tables.{area_bytes, map_seen};
+ghost use Rattle.udf_volume_model.specs.SparingTable.{entries, listed_area, listed_number, prevailing_table, table_area, table_number, table_stated};
 
 use crate::entries::used_entries;
 use crate::whole_table::{HEAD_BYTES, WholeTable, front_bytes, is_whole_table};
@@ -69,7 +71,7 @@ fn read_front<B: Bench>(
     requires large { 512 ≤ size }
     requires some { 56 ≤ bytes }
     requires within { at * size + area_bytes size bytes ≤ (B.files bench.old).image.size }
-    ensures front { B.tells → IfOk result (λ front. front.items ≡ table_front (area_at size (bytes_of Image (B.held bench.old)) bytes at)) }
+    ensures front { B.tells → IfOk result (λ front. front.items ≡ table_front (table_area size (disk_of size (B.held bench.old)) bytes at)) }
     ensures long { IfOk result (λ front. 56 ≤ length front.items) }
     ensures reads { OnlyReads B.files B.held B.faults bench.old bench.new WorkStop.Fault result }
 {
@@ -103,7 +105,7 @@ fn read_table<B: Bench>(
     requires large { 512 ≤ size }
     requires some { 56 ≤ bytes }
     requires within { at * size + area_bytes size bytes ≤ (B.files bench.old).image.size }
-    ensures table { B.tells → IfOk result (IsRead (table_number bytes at (area_at size (bytes_of Image (B.held bench.old)) bytes at)) (entries (area_at size (bytes_of Image (B.held bench.old)) bytes at))) }
+    ensures table { B.tells → IfOk result (IsRead (table_number bytes at (table_area size (disk_of size (B.held bench.old)) bytes at)) (entries (table_area size (disk_of size (B.held bench.old)) bytes at))) }
     ensures reads { OnlyReads B.files B.held B.faults bench.old bench.new WorkStop.Fault result }
 {
     let front = read_front(alloc, bench, size, bytes, at)?;
@@ -138,8 +140,8 @@ fn best_table<B: Bench>(
     requires attached { IsAttached Image (B.files bench.old) }
     requires large { 512 ≤ size }
     requires map { IsTableMap size (B.files bench.old).image.size map.now }
-    ensures best { B.tells → IfOk result (IsBest (listed_number size (bytes_of Image (B.held bench.old)) map.now)
-        (λ i. entries (listed_area size (bytes_of Image (B.held bench.old)) map.now i)) map.now.count) }
+    ensures best { B.tells → IfOk result (IsBest (listed_number size (disk_of size (B.held bench.old)) (map_seen map.now))
+        (λ i. entries (listed_area size (disk_of size (B.held bench.old)) (map_seen map.now) i)) map.now.count) }
     ensures reads { OnlyReads B.files B.held B.faults bench.old bench.new WorkStop.Fault result }
 {
     let mut best = None;
@@ -164,9 +166,9 @@ pub fn sparing_table<B: Bench>(
     requires attached { IsAttached Image (B.files bench.old) }
     requires large { 512 ≤ size }
     requires map { IsTableMap size (B.files bench.old).image.size map.now }
-    ensures table { B.tells → IfOk result (λ table. Some table ≡ table_stated size (bytes_of Image (B.held bench.old)) map.now blocks) }
+    ensures table { B.tells → IfOk result (λ table. Some table ≡ table_stated size (disk_of size (B.held bench.old)) (map_seen map.now) blocks) }
     ensures missing { B.tells → IsErrOf result (LayerStop.Missing Missing.SparingTable)
-        → table_stated size (bytes_of Image (B.held bench.old)) map.now blocks ≡ None }
+        → table_stated size (disk_of size (B.held bench.old)) (map_seen map.now) blocks ≡ None }
     ensures used { IfOk result (IsUsedTable map.now blocks) }
     ensures stops { IfErr result IsTableStop }
     ensures reads { OnlyReads B.files B.held B.faults bench.old bench.new LayerStop.Fault result }
@@ -180,6 +182,6 @@ pub fn sparing_table<B: Bench>(
 
 /// A table is found exactly where it prevails, and none exactly where none is whole.
 pub fn prevailing_law()
-    ensures found { (numbers : ℕ → Option ℕ) (count best : ℕ) → (prevailing_index numbers count ≡ Some best) ↔ Prevails numbers count best }
-    ensures none { (numbers : ℕ → Option ℕ) (count : ℕ) → (prevailing_index numbers count ≡ None) ↔ ((k : ℕ) → k < count → numbers k ≡ None) }
+    ensures found { (numbers : ℕ → Option ℕ) (count best : ℕ) → (prevailing_table numbers count ≡ Some best) ↔ Prevails numbers count best }
+    ensures none { (numbers : ℕ → Option ℕ) (count : ℕ) → (prevailing_table numbers count ≡ None) ↔ ((k : ℕ) → k < count → numbers k ≡ None) }
 {}

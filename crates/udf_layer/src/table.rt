@@ -28,7 +28,7 @@ pub struct SparingTable {
 }
 
 impl Model for SparingTable {
-    ghost use Rattle.udf_layer.specs.Table.{Table};
+    ghost use Rattle.udf_volume_model.specs.SparingTable.{Table};
     ghost use Rattle.udf_layer.specs.Indexes.{HasIndexes};
 
     ghost Value = { Table };

@@ -1,7 +1,7 @@
 // Whole sparing tables (UDF 2.50 2.2.12).
 ghost use Rattle.std.specs.Prelude.{◌≡◌, ◌+◌, ◌*◌, ◌≤◌, ◌&&◌, nat_le, max, length};
 ghost use Rattle.udf_layer.specs.Fronts.{front_length};
-ghost use Rattle.udf_layer.specs.Tables.{entry_count, is_table, sequence_number};
+ghost use Rattle.udf_volume_model.specs.SparingTable.{entry_count, is_table, sequence_number};
 
 use udf_field::{Fields, id_at};
 
@@ -73,7 +73,7 @@ pub(crate) fn front_bytes(head: &[u8]) -> u32
 }
 
 /// Whether a whole table of so many bytes begins at the sector `at`, by the front of its area, which has its entries.
-#[tactic(auto, unfolding(crate::specs::Tables::is_table))]
+#[tactic(auto, unfolding(udf_volume_model::specs::SparingTable::is_table))]
 pub(crate) fn is_whole_table(bytes: u32, at: u32, front: &[u8]) -> bool
     requires { 56 ≤ length front.now }
     ensures { result ≡ (is_table bytes at front.now && nat_le (56 + 8 * entry_count front.now) (length front.now)) }

@@ -3,9 +3,9 @@ use Rattle.std.proofs.Common.{◌≡◌, ℕ, List, ◌++◌, ◌∷◌, [], len
 use Rattle.std.specs.List.{range_with_len}
 use Rattle.std.proofs.lemmas.List.FromFn.{map-range_with_len_more, length-map-range_with_len}
 use Rattle.udf_model.specs.Bytes.{number_at}
-use Rattle.udf_layer.specs.Tables.{entries, entry_at, used_pairs, firsts}
 use Rattle.udf_layer.proofs.Used.{used_few}
 use Rattle.udf_layer.proofs.entries.used_entries.Goals as goal
+use Rattle.udf_volume_model.specs.SparingTable.{entries, entry_at, firsts, used_pairs}
 
 pub loop-i-init : goal.loop-i-init
 unfolding used_pairs firsts

@@ -1,9 +1,8 @@
 -- An entry is used where it names a packet of the partition that no earlier one names.
 use Rattle.std.proofs.Common.{◌≡◌, ◌++◌, ◌∷◌, [], sym, ◌∙◌, ap}
-use Rattle.udf_layer.specs.Table.{Table}
-use Rattle.udf_layer.specs.Tables.{is_original, used_pairs}
 use Rattle.udf_layer.proofs.Used.{not_original, comes_again, is_used, if_ok}
 use Rattle.udf_layer.proofs.entries.with_entry.Goals as goal
+use Rattle.udf_volume_model.specs.SparingTable.{Table, is_original, used_pairs}
 
 pub returns-then-not-is_packet-clause-pairs : goal.returns-then-not-is_packet-clause-pairs
 returns-then-not-is_packet-clause-pairs c = λ list is.

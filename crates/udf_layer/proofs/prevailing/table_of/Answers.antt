@@ -1,8 +1,8 @@
 -- A table is whole by its front.
 use Rattle.std.proofs.Common.{◌∙◌, ℕ, List, Some, ◌&&◌, ◌+◌, ◌*◌, nat_le, length, sym, ap}
-use Rattle.udf_layer.specs.Tables.{entries, entry_count, is_table}
 use Rattle.udf_layer.proofs.WholeTables.{is_read, not_read}
 use Rattle.udf_layer.proofs.prevailing.table_of.Goals as goal
+use Rattle.udf_volume_model.specs.SparingTable.{entries, entry_count, is_table}
 
 pub returns-then-is_whole_table : goal.returns-then-is_whole_table
 returns-then-is_whole_table c = λ area is room.

@@ -1,9 +1,9 @@
 -- One pair more, whose original is new.
 use Rattle.std.proofs.Common.{length, ap, ◌∙◌, arith}
-use Rattle.udf_layer.specs.Table.{Table}
 use Rattle.udf_layer.specs.Indexes.{mapped_from}
 use Rattle.udf_layer.proofs.Kept.{one_kept}
 use Rattle.udf_layer.proofs.table.SparingTable.with.Goals as goal
+use Rattle.udf_volume_model.specs.SparingTable.{Table}
 
 pub invariant_of-result : goal.invariant_of-result
 invariant_of-result c =
