@@ -1,5 +1,5 @@
 -- Sparing tables of the code, as the definitions have them.
-use Rattle.std.specs.Prelude.{ℕ, ◌+◌, ◌*◌, ◌-◌, ◌/◌, map, slice_index}
+use Rattle.std.specs.Prelude.{ℕ, ◌+◌, ◌*◌, ◌-◌, ◌/◌, map, min, slice_index}
 use Rattle.std.specs.List.{range_with_len}
 use Rattle.udf_volume_model.specs.Maps as model
 use Rattle.udf_layer.specs.declared.maps.SparingMap.{SparingMap}
@@ -10,4 +10,9 @@ area_bytes size bytes = (bytes + (size - 1)) / size * size
 
 -- a map, with the tables that it lists
 abbrev pub map_seen : SparingMap → model.SparingMap
-map_seen m = record { packet = m.packet; bytes = m.bytes; tables = map (λ i. slice_index m.at i) (range_with_len 0 m.count) }
+map_seen m = record {
+  packet = m.packet;
+  count = m.count;
+  bytes = m.bytes;
+  tables = map (slice_index m.at) (range_with_len 0 (min m.count 4));
+}

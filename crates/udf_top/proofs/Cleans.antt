@@ -4,8 +4,8 @@ use Rattle.udf_outside.specs.Stops.{Pair}
 use Rattle.udf_volume_model.specs.Size.{size_of}
 use Rattle.udf_repair_model.specs.Accepted.{is_accepted, is_unbroken}
 use Rattle.udf_repair_model.specs.Sized.{accepted_by, is_accepted_as, unbroken_by, is_unbroken_as}
-use Rattle.udf_volume.specs.declared.missing.Missing.{Missing}
-use Rattle.udf_volume.specs.declared.missing.Missing.TheVariants.{Anchor}
+use Rattle.udf_layer.specs.declared.missing.Missing.{Missing}
+use Rattle.udf_layer.specs.declared.missing.Missing.TheVariants.{Anchor}
 use Rattle.udf_volume.specs.declared.volume.Volume.{Volume}
 use Rattle.udf_volume.specs.Opened.{opening}
 use Rattle.udf_volume.specs.Writable.{writable_opening}

@@ -9,9 +9,9 @@ use Rattle.udf_volume_model.specs.Size.{size_of}
 use Rattle.udf_repair_model.specs.Accepted.{is_accepted, is_unbroken, mended, mend}
 use Rattle.udf_repair_model.specs.Sized.{accepted_by, is_accepted_as, unbroken_by}
 use Rattle.udf_repair_model.proofs.Repair.{law, mend_accepted, still_accepted, size_kept}
-use Rattle.udf_volume.specs.declared.missing.Missing.{Missing}
-use Rattle.udf_volume.specs.declared.missing.LayerStop.{LayerStop}
-use Rattle.udf_volume.specs.declared.missing.LayerStop.TheVariants as size_stop
+use Rattle.udf_layer.specs.declared.missing.Missing.{Missing}
+use Rattle.udf_layer.specs.declared.missing.LayerStop.{LayerStop}
+use Rattle.udf_layer.specs.declared.missing.LayerStop.TheVariants as size_stop
 use Rattle.udf_volume.specs.declared.volume.Volume.{Volume}
 use Rattle.udf_volume.specs.Writable.{writable_opening}
 use Rattle.udf_redo.specs.declared.stop.RedoStop.{RedoStop}

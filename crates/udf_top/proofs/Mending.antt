@@ -18,8 +18,8 @@ use Rattle.udf_volume_laws.proofs.Applied.{plan_gives}
 use Rattle.udf_repair_model.proofs.Repair.{mend_stays}
 use Rattle.udf_repair_model.proofs.Repair.{mend_accepted, mend_alike, mend_differs}
 use Rattle.udf_volume_laws.proofs.Findings as laws
-use Rattle.udf_volume.specs.declared.missing.Missing.{Missing}
-use Rattle.udf_volume.specs.declared.missing.Missing.TheVariants.{WriteProtected}
+use Rattle.udf_layer.specs.declared.missing.Missing.{Missing}
+use Rattle.udf_layer.specs.declared.missing.Missing.TheVariants.{WriteProtected}
 use Rattle.udf_volume.specs.declared.volume.Volume.{Volume}
 use Rattle.udf_volume.specs.Opened.{opening}
 use Rattle.udf_volume.specs.Writable.{writable_opening, is_protected, by_protection}

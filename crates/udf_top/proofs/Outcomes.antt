@@ -2,12 +2,12 @@
 use Rattle.std.proofs.Common.{◌≡◌, ℕ, ◌+◌, ◌*◌, ◌/◌, ◌%◌, ◌≤◌, arith, ◌++◌, sym, ◌∙◌, ap, List, Option, Some, Result, Ok, Err}
 use Rattle.std.proofs.lemmas.List.{append-nil}
 use Rattle.std.proofs.lemmas.Nat.{div-add-mod'}
-use Rattle.udf_volume.specs.declared.missing.Missing.{Missing}
+use Rattle.udf_layer.specs.declared.missing.Missing.{Missing}
 use Rattle.udf_volume.specs.declared.volume.Volume.{Volume}
 use Rattle.udf_volume_model.specs.Size.{size_of}
 use Rattle.udf_volume.specs.Opened.{opening}
-use Rattle.udf_volume.specs.declared.missing.LayerStop.{LayerStop}
-use Rattle.udf_volume.specs.declared.missing.LayerStop.TheVariants as stops
+use Rattle.udf_layer.specs.declared.missing.LayerStop.{LayerStop}
+use Rattle.udf_layer.specs.declared.missing.LayerStop.TheVariants as stops
 use Rattle.udf_rules.specs.declared.finding.Finding.{Finding}
 use Rattle.udf_top.specs.declared.outcome.Outcome.TheVariants as outcome
 use Rattle.udf_rules.specs.Findings.{findings_in}

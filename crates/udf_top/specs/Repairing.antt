@@ -5,10 +5,10 @@ use Rattle.udf_volume_model.specs.Opened.{difference}
 use Rattle.udf_volume_model.specs.Size.{size_of}
 use Rattle.udf_repair_model.specs.Accepted.{mend}
 use Rattle.udf_repair_model.specs.Sized.{mend_as}
-use Rattle.udf_volume.specs.declared.missing.Missing.{Missing}
-use Rattle.udf_volume.specs.declared.missing.Missing.TheVariants.{Anchor}
-use Rattle.udf_volume.specs.declared.missing.LayerStop.{LayerStop}
-use Rattle.udf_volume.specs.declared.missing.LayerStop.TheVariants as size_stop
+use Rattle.udf_layer.specs.declared.missing.Missing.{Missing}
+use Rattle.udf_layer.specs.declared.missing.Missing.TheVariants.{Anchor}
+use Rattle.udf_layer.specs.declared.missing.LayerStop.{LayerStop}
+use Rattle.udf_layer.specs.declared.missing.LayerStop.TheVariants as size_stop
 use Rattle.udf_volume.specs.declared.volume.Volume.{Volume}
 use Rattle.udf_volume.specs.Writable.{writable_opening}
 use Rattle.udf_redo.specs.declared.side.SideState.{SideState}

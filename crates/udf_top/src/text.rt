@@ -1,6 +1,6 @@
 //! What is printed at each outcome.
 ghost use Rattle.std.specs.Prelude.{◌≡◌, ◌+◌, ◌≤◌, ◌++◌, length, IfOk, OnOk, codes, decimal, take};
-ghost use Rattle.udf_volume.specs.declared.missing.Missing.{Missing};
+ghost use Rattle.udf_layer.specs.declared.missing.Missing.{Missing};
 ghost use Rattle.udf_rules.specs.Lines.{lines_of, line_of};
 ghost use Rattle.udf_top.specs.Texts.{text_of, name_of, item_name, line_on, replayed_text, mend_text};
 

@@ -3,7 +3,7 @@ ghost use Rattle.std.specs.Prelude.{◌≡◌, ◌++◌, ℕ, List, true, false,
 ghost use Rattle.udf_outside.specs.Stops.{pair_of, IsSynced};
 ghost use Rattle.udf_outside.specs.Causes.{Rose};
 ghost use Rattle.udf_words.specs.declared.cause.Cause.{Cause};
-ghost use Rattle.udf_volume.specs.declared.missing.Missing.{Missing};
+ghost use Rattle.udf_layer.specs.declared.missing.Missing.{Missing};
 ghost use Rattle.udf_volume.specs.Refusals.{IsOfVolume};
 ghost use Rattle.udf_model.specs.Size.{is_size};
 ghost use Rattle.udf_top.specs.Words.{Repair, repair_in, beside, checks, names_one_by, names_one_file};

@@ -6,8 +6,8 @@ use Rattle.udf_volume_model.specs.Kept.{kept, other, limit_of, has_anchor, kept_
 use Rattle.udf_volume_model.specs.Kept as model
 use Rattle.udf_volume_model.specs.Stated.{logical, partition}
 use Rattle.udf_volume_model.specs.Areas.{areas_of, integrity_areas, integrity_extent, partition_area}
-use Rattle.udf_volume.specs.declared.missing.Missing.{Missing}
-use Rattle.udf_volume.specs.declared.missing.Missing.TheVariants as missing
+use Rattle.udf_layer.specs.declared.missing.Missing.{Missing}
+use Rattle.udf_layer.specs.declared.missing.Missing.TheVariants as missing
 use Rattle.udf_volume.specs.declared.volume.Volume.{Volume}
 use Rattle.udf_volume.specs.Seen.{extent_seen}
 use Rattle.udf_volume.specs.Spans.{kept_span, other_span, limit_stated}

@@ -10,7 +10,7 @@ use Rattle.udf_volume_model.specs.Areas.{is_outside}
 use Rattle.udf_volume_model.specs.Layout.{is_apart, are_apart, is_inside, earlier, is_passed}
 use Rattle.udf_volume.specs.Areas.{area_seen, areas_stated}
 use Rattle.udf_volume.specs.Laid.{is_bitmap_at, areas_laid, places_laid, is_laid, IsLaidOut}
-use Rattle.udf_volume.specs.declared.area.Area.{Area}
+use Rattle.udf_layer.specs.declared.area.Area.{Area}
 use Rattle.udf_volume.specs.declared.volume.Volume.{Volume}
 
 pub none_apart : (areas : List Area) → length areas ≡ 0 → true ≡ are_apart (map area_seen areas)

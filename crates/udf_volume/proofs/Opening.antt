@@ -6,8 +6,8 @@ use Rattle.std.proofs.lemmas.Bool.{lt-ltb, le-ltb}
 use Rattle.udf_model.specs.Image.{block_of}
 use Rattle.udf_volume_model.specs.Anchor.{places}
 use Rattle.udf_volume_model.specs.Kept.{has_anchor, kept_sequence_in, kept_sequence_of}
-use Rattle.udf_volume.specs.declared.missing.Missing.{Missing}
-use Rattle.udf_volume.specs.declared.missing.Missing.TheVariants as missing
+use Rattle.udf_layer.specs.declared.missing.Missing.{Missing}
+use Rattle.udf_layer.specs.declared.missing.Missing.TheVariants as missing
 use Rattle.udf_volume.specs.declared.kept.AnchorSearch.{AnchorSearch}
 use Rattle.udf_volume.specs.declared.kept.AnchorSearch.TheVariants.{Nothing, Unled, Kept}
 use Rattle.udf_volume.specs.Led.{Finds, led_seen}
@@ -15,8 +15,8 @@ use Rattle.udf_volume.specs.Laid.{is_laid}
 use Rattle.udf_volume.proofs.LaidOut.{laid_is}
 use Rattle.udf_volume_model.specs.Profile.{has_block_size, has_domain, has_revision, has_pointer, has_no_tables}
 use Rattle.udf_volume_model.specs.Layout.{is_lawful}
-use Rattle.udf_volume.specs.declared.missing.ProfileItem.{ProfileItem}
-use Rattle.udf_volume.specs.declared.missing.ProfileItem.TheVariants as item
+use Rattle.udf_layer.specs.declared.missing.ProfileItem.{ProfileItem}
+use Rattle.udf_layer.specs.declared.missing.ProfileItem.TheVariants as item
 use Rattle.udf_volume_model.specs.Sequence.{Descriptor}
 use Rattle.udf_volume_model.specs.Prevailing.{prevailing}
 use Rattle.udf_volume_model.specs.Kept as model

@@ -8,7 +8,7 @@ use Rattle.udf_volume_model.specs.Prevailing.{prevailing}
 use Rattle.udf_volume_model.specs.Stated.{body_of, logical, partition, map_number, mapped_partition, has_one_map, is_built}
 use Rattle.udf_volume_model.specs.Profile.{states_block_size, states_domain, states_revision, has_block_size, domain_identifier, has_domain, has_revision, has_pointer, has_no_tables, names_no_tables}
 use Rattle.udf_volume.specs.declared.profile.TheConstants.{DOMAIN_IDENTIFIER}
-use Rattle.udf_volume.specs.declared.missing.ProfileItem.TheVariants as item
+use Rattle.udf_layer.specs.declared.missing.ProfileItem.TheVariants as item
 use Rattle.udf_volume.specs.Opened.{unlike_maps, unlike_profile}
 
 pub domain_is : DOMAIN_IDENTIFIER ≡ domain_identifier

@@ -10,10 +10,10 @@ use Rattle.udf_volume_model.specs.Stated.{is_built, logical, partition}
 use Rattle.udf_volume_model.specs.Profile.{has_block_size, has_domain, has_revision, has_pointer, has_no_tables, is_profile, is_protected as is_protected_list, is_guarded_list}
 use Rattle.udf_volume_model.specs.Layout.{is_lawful}
 use Rattle.udf_volume_model.specs.Opened.{is_opened, is_opened_by, is_protected_by, is_protected_image}
-use Rattle.udf_volume.specs.declared.missing.Missing.{Missing}
-use Rattle.udf_volume.specs.declared.missing.Missing.TheVariants as missing
-use Rattle.udf_volume.specs.declared.missing.ProfileItem.{ProfileItem}
-use Rattle.udf_volume.specs.declared.missing.ProfileItem.TheVariants as item
+use Rattle.udf_layer.specs.declared.missing.Missing.{Missing}
+use Rattle.udf_layer.specs.declared.missing.Missing.TheVariants as missing
+use Rattle.udf_layer.specs.declared.missing.ProfileItem.{ProfileItem}
+use Rattle.udf_layer.specs.declared.missing.ProfileItem.TheVariants as item
 use Rattle.udf_volume.specs.declared.volume.Volume.{Volume}
 use Rattle.udf_volume.specs.Opened.{volume_by, is_guarded, unlike_profile, unlike_maps, by_profile, by_refusal, refusal_of, accepted, by_volume, opening}
 use Rattle.udf_volume.specs.Writable.{is_protected, by_protection, writable_opening}

@@ -4,7 +4,7 @@ use Rattle.udf_volume_model.specs.Anchor.{Anchor, blocks_for}
 use Rattle.udf_volume_model.specs.Areas as model
 use Rattle.udf_field.specs.declared.address.Span.{Span}
 use Rattle.udf_volume.specs.Seen.{extent_seen}
-use Rattle.udf_volume.specs.declared.area.Area.{Area}
+use Rattle.udf_layer.specs.declared.area.Area.{Area}
 use Rattle.udf_volume.specs.declared.volume.Volume.{Volume}
 
 abbrev pub area_seen : Area → model.Area

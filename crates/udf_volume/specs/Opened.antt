@@ -17,12 +17,12 @@ use Rattle.udf_volume.specs.declared.volume.Which.{Which}
 use Rattle.udf_volume.specs.declared.volume.Which.TheVariants as which
 use Rattle.udf_volume.specs.declared.volume.Upper.TheVariants.{Absent}
 use Rattle.udf_volume.specs.declared.volume.Volume.{Volume}
-use Rattle.udf_volume.specs.declared.missing.Missing.{Missing}
-use Rattle.udf_volume.specs.declared.missing.Missing.TheVariants as missing
-use Rattle.udf_volume.specs.declared.missing.ProfileItem.{ProfileItem}
-use Rattle.udf_volume.specs.declared.missing.ProfileItem.TheVariants as item
-use Rattle.udf_volume.specs.declared.missing.LayerStop.{LayerStop}
-use Rattle.udf_volume.specs.declared.missing.LayerStop.TheVariants as stops
+use Rattle.udf_layer.specs.declared.missing.Missing.{Missing}
+use Rattle.udf_layer.specs.declared.missing.Missing.TheVariants as missing
+use Rattle.udf_layer.specs.declared.missing.ProfileItem.{ProfileItem}
+use Rattle.udf_layer.specs.declared.missing.ProfileItem.TheVariants as item
+use Rattle.udf_layer.specs.declared.missing.LayerStop.{LayerStop}
+use Rattle.udf_layer.specs.declared.missing.LayerStop.TheVariants as stops
 
 abbrev pub which_of : model_kept.Which → Which
 which_of model_kept.Main = which.Main

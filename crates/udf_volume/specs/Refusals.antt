@@ -1,8 +1,8 @@
 -- Which refusals a call can answer, also over a bench that tells nothing.
-use Rattle.udf_volume.specs.declared.missing.Missing.{Missing}
-use Rattle.udf_volume.specs.declared.missing.Missing.TheVariants as missing
-use Rattle.udf_volume.specs.declared.missing.LayerStop.{LayerStop}
-use Rattle.udf_volume.specs.declared.missing.LayerStop.TheVariants as stops
+use Rattle.udf_layer.specs.declared.missing.Missing.{Missing}
+use Rattle.udf_layer.specs.declared.missing.Missing.TheVariants as missing
+use Rattle.udf_layer.specs.declared.missing.LayerStop.{LayerStop}
+use Rattle.udf_layer.specs.declared.missing.LayerStop.TheVariants as stops
 
 -- a refusal of the volume's description: any but write protection, which refuses a repair alone
 abbrev pub IsOfVolume : Missing → Type 0

@@ -2,8 +2,8 @@
 use Rattle.std.specs.Prelude.{ℕ, Bool, not, ◌||◌, if◌then◌else◌, List, Result, Ok, Err}
 use Rattle.udf_volume_model.specs.Profile.{is_rewritable}
 use Rattle.udf_volume.specs.declared.volume.Volume.{Volume}
-use Rattle.udf_volume.specs.declared.missing.Missing.{Missing}
-use Rattle.udf_volume.specs.declared.missing.Missing.TheVariants.{WriteProtected}
+use Rattle.udf_layer.specs.declared.missing.Missing.{Missing}
+use Rattle.udf_layer.specs.declared.missing.Missing.TheVariants.{WriteProtected}
 use Rattle.udf_volume.specs.Opened.{opening}
 
 -- a protection bit stands, or the access type forbids rewriting

@@ -1,7 +1,7 @@
 //! Why an image is no volume of this profile, and why work ended.
 ghost use Rattle.std.specs.Prelude.{◌≡◌};
-ghost use Rattle.udf_volume.specs.declared.missing.WorkStop.TheVariants.{Fault, Memory};
-ghost use Rattle.udf_volume.specs.declared.missing.LayerStop.TheVariants as stops;
+ghost use Rattle.udf_layer.specs.declared.missing.WorkStop.TheVariants.{Fault, Memory};
+ghost use Rattle.udf_layer.specs.declared.missing.LayerStop.TheVariants as stops;
 
 use std::alloc::{AllocError, AllocFailed};
 use udf_outside::Failed;
@@ -79,7 +79,7 @@ pub enum LayerStop {
 }
 
 impl From<WorkStop> for LayerStop {
-    ghost use Rattle.udf_volume.specs.Causes.{layer_stop};
+    ghost use Rattle.udf_layer.specs.Causes.{layer_stop};
 
     ghost from_gives = { λ stop e. e ≡ layer_stop stop };
 

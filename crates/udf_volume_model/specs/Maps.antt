@@ -1,15 +1,17 @@
 -- Partition maps (ECMA-167 3/10.7; UDF 2.50 2.2.8 to 2.2.10), and the shape of a volume that they make: a base partition, and
 -- what stands over it. The bytes are those of a logical volume descriptor, offsets those from its tag's first byte.
-use Rattle.std.specs.Prelude.{ℕ, Bool, true, ◌==◌, ◌&&◌, ◌+◌, ◌*◌, ◌-◌, nat_le, if◌then◌else◌, Option, Some, None, List, length, map, take, drop, slice_index, codes}
+use Rattle.std.specs.Prelude.{ℕ, Bool, true, ◌==◌, ◌&&◌, ◌+◌, ◌*◌, ◌-◌, nat_le, if◌then◌else◌, Option, Some, None, List, length, map, min, take, drop, slice_index, codes}
 use Rattle.std.specs.List.{range_with_len}
 use Rattle.std.specs.Str.{bytes_eq}
 use Rattle.udf_model.specs.Bytes.{number_at}
 use Rattle.udf_field.specs.FieldView.{entity_is}
 use Rattle.udf_volume_model.specs.Prevailing.{number_in}
 
--- what a sparable map says (UDF 2.50 2.2.9): the blocks of a packet, and the sparing tables, by the bytes of one and their sectors
+-- What a sparable map says (UDF 2.50 2.2.9): the blocks of a packet, the number of sparing tables, the bytes of one, and the
+-- sectors of the tables, for which it has room for four.
 pub record SparingMap : Type 0 where
   pub packet : ℕ
+  pub count : ℕ
   pub bytes : ℕ
   pub tables : List ℕ
 
@@ -47,8 +49,9 @@ begins kind bytes table = nat_le bytes (length table) && ((slice_index table 0 =
 unfoldable pub sparing_map : List ℕ → SparingMap
 sparing_map table = record {
   packet = number_at 2 table 40;
+  count = slice_index table 42;
   bytes = number_at 4 table 44;
-  tables = map (λ i. number_at 4 table (48 + 4 * i)) (range_with_len 0 (slice_index table 42));
+  tables = map (λ i. number_at 4 table (48 + 4 * i)) (range_with_len 0 (min (slice_index table 42) 4));
 }
 
 -- the kind of a map of type 2, where its entity at 4 has one of the known identifiers (UDF 2.50 2.2.8)
@@ -156,8 +159,7 @@ shape_of body =
 -- packets of some blocks, one to four tables, each with room for what stands before its entries
 unfoldable pub is_sparing_lawful : SparingMap → Bool
 is_sparing_lawful sparing =
-    nat_le 1 sparing.packet
-    && (nat_le 1 (length sparing.tables) && (nat_le (length sparing.tables) 4 && nat_le 56 sparing.bytes))
+    nat_le 1 sparing.packet && (nat_le 1 sparing.count && (nat_le sparing.count 4 && nat_le 56 sparing.bytes))
 
 abbrev pub is_base_lawful : Option SparingMap → Bool
 is_base_lawful None = true

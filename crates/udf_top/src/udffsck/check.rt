@@ -6,7 +6,7 @@ ghost use Rattle.udf_outside.specs.Reads.{OnlyReads};
 ghost use Rattle.udf_outside.specs.Causes.{Rose};
 ghost use Rattle.udf_outside.specs.declared.bench.Role.TheVariants.{Image};
 ghost use Rattle.udf_outside.specs.declared.bench.Access.TheVariants.{Read};
-ghost use Rattle.udf_volume.specs.declared.missing.Missing.{Missing};
+ghost use Rattle.udf_layer.specs.declared.missing.Missing.{Missing};
 ghost use Rattle.udf_model.specs.Size.{is_size};
 ghost use Rattle.udf_volume.specs.Refusals.{IsOfVolume, RefusesVolume};
 ghost use Rattle.udf_words.specs.declared.cause.Cause.{Cause};

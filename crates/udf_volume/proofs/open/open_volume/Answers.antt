@@ -3,7 +3,7 @@ use Rattle.udf_model.specs.Image.{block_of}
 use Rattle.udf_outside.specs.Stops.{Held, bytes_of}
 use Rattle.udf_outside.specs.declared.bench.Role.TheVariants.{Image}
 use Rattle.udf_volume.specs.declared.volume.Volume.{Volume}
-use Rattle.udf_volume.specs.declared.missing.Missing.{Missing}
+use Rattle.udf_layer.specs.declared.missing.Missing.{Missing}
 use Rattle.udf_volume.specs.Led.{led_seen}
 use Rattle.udf_volume.specs.Opened.{accepted, Answers}
 use Rattle.udf_volume.proofs.Opening.{answer_of, too_large, opened_as}
