@@ -1,35 +1,59 @@
 -- A volume that was opened is that of the image, and what its fields tell.
-use Rattle.std.proofs.Common.{◌≡◌, ℕ, refl, ◌∙◌, ap, List, Bool, true, false, cond, Option, Some, None, Result, Ok, Err, ltb, length, ◌/◌}
+use Rattle.std.proofs.Common.{◌≡◌, ℕ, refl, sym, ◌∙◌, ap, List, Bool, true, false, cond, Option, Some, None, Result, Ok, Err, ltb, length, ◌/◌}
 use Rattle.udf_model.specs.Image.{block_of, blocks_in}
 use Rattle.udf_volume_model.specs.Anchor.{Anchor, places}
 use Rattle.udf_volume_model.specs.Kept.{kept, other, limit_of, has_anchor, kept_sequence_of}
 use Rattle.udf_volume_model.specs.Kept as model
-use Rattle.udf_volume_model.specs.Stated.{logical, partition}
-use Rattle.udf_volume_model.specs.Areas.{areas_of, integrity_areas, integrity_extent, partition_area}
+use Rattle.udf_volume_model.specs.Stated.{logical, partition, sparing}
+use Rattle.udf_volume_model.specs.Areas.{areas_of, taken}
+use Rattle.udf_volume_model.specs.AllRules.{layout_in}
+use Rattle.udf_volume_model.specs.Layout.{is_lawful, is_spared}
+use Rattle.udf_volume_model.proofs.Physical.{built_physical, taken_are}
 use Rattle.udf_layer.specs.declared.missing.Missing.{Missing}
 use Rattle.udf_layer.specs.declared.missing.Missing.TheVariants as missing
 use Rattle.udf_volume.specs.declared.volume.Volume.{Volume}
 use Rattle.udf_volume.specs.Seen.{extent_seen}
 use Rattle.udf_volume.specs.Spans.{kept_span, other_span, limit_stated}
 use Rattle.udf_volume.specs.Areas.{anchor_stated, areas_stated}
-use Rattle.udf_volume.specs.Opened.{volume_by, refusal_of, by_refusal, accepted, by_volume, opening}
+use Rattle.udf_volume.specs.Opened.{volume_by, by_profile, unlike_profile, refusal_of, by_refusal, accepted, by_volume, opening}
+use Rattle.udf_volume.proofs.LaidOut.{areas_same}
+use Rattle.udf_volume.proofs.Opening.{like_is_built}
+use Rattle.udf_layer.specs.declared.missing.ProfileItem.{ProfileItem}
 
 -- the volume has the fields that are stated of a kept sequence of the image
 pub record Describes (size : ℕ) (image : List ℕ) (volume : Volume) (v : model.KeptSequence) : Type 0 where
   pub found : kept_sequence_of size image ≡ Some v
+  pub physical : sparing v.list ≡ None
   pub is : volume ≡ volume_by size (blocks_in size image) v (logical v.list) (partition v.list)
 
-by_refused : (refusal : Option Missing) (fields volume : Volume) → by_refusal refusal fields ≡ Ok volume → volume ≡ fields
-by_refused None fields volume e = cc
-by_refused (Some missing) fields volume e = cc
+by_refused : (refusal : Option Missing) (fields volume : Volume) → by_refusal refusal fields ≡ Ok volume → (volume ≡ fields) × (refusal ≡ None)
+by_refused None fields volume e = (let t : fields ≡ volume = cc in sym t, refl)
+by_refused (Some missing) fields volume e = absurd (cc)
+
+like : (item : Option ProfileItem) (lawful spared : Bool) → by_profile item lawful spared ≡ None → item ≡ None
+like None lawful spared e = refl
+like (Some item) lawful spared e = absurd (cc)
+
+-- what a volume that is opened states
+record IsStated (size blocks : ℕ) (found : Option model.KeptSequence) (volume : Volume) : Type 0 where
+  sequence : model.KeptSequence
+  is : found ≡ Some sequence
+  fields : volume ≡ volume_by size blocks sequence (logical sequence.list) (partition sequence.list)
+  physical : sparing sequence.list ≡ None
 
 ok_volume : (size blocks : ℕ) (disk : ℕ → List ℕ) (any : Bool) (found : Option model.KeptSequence) (volume : Volume) → by_volume size blocks disk any found ≡ Ok volume
-    → (v : model.KeptSequence) × (found ≡ Some v) × (volume ≡ volume_by size blocks v (logical v.list) (partition v.list))
-unfolding accepted
-ok_volume size blocks disk true None volume e = cc
-ok_volume size blocks disk false None volume e = cc
+    → IsStated size blocks found volume
+unfolding accepted refusal_of
+ok_volume size blocks disk true None volume e = absurd (cc)
+ok_volume size blocks disk false None volume e = absurd (cc)
 ok_volume size blocks disk any (Some v) volume e =
-    (v, refl, by_refused (refusal_of size blocks disk v) (volume_by size blocks v (logical v.list) (partition v.list)) volume e)
+    let t = by_refused (refusal_of size blocks disk v) (volume_by size blocks v (logical v.list) (partition v.list)) volume e in
+    record {
+      sequence = v;
+      is = refl;
+      fields = t.0;
+      physical = built_physical v.list (like_is_built size v.list (like (unlike_profile size v.list) (is_lawful size blocks disk v) (is_spared size blocks disk v) t.1)).1;
+    }
 
 pub opened_ok : (size : ℕ) (image : List ℕ) (volume : Volume) → opening size image ≡ Ok volume → (v : model.KeptSequence) × Describes size image volume v
 unfolding opening
@@ -41,7 +65,7 @@ opened_ok size image volume = by_size (ltb 4294967295 (length image / size)) whe
   by_size true e = cc
   by_size false e =
       let found = ok_volume size (blocks_in size image) (block_of size image) _ (kept_sequence_of size image) volume e in
-      (found.0, record { found = found.1; is = found.2 })
+      (found.sequence, record { found = found.is; physical = found.physical; is = found.fields })
 
 module _ (size : ℕ) (image : List ℕ) (volume : Volume) (v : model.KeptSequence) (d : Describes size image volume v) where
   pub size_is : volume.size ≡ size
@@ -61,8 +85,11 @@ module _ (size : ℕ) (image : List ℕ) (volume : Volume) (v : model.KeptSequen
   limit_is = ap limit_stated d.is
 
   pub areas_is : areas_stated volume ≡ areas_of size v.anchor v.list
-  unfolding volume_by areas_of integrity_areas integrity_extent partition_area
-  areas_is = ap areas_stated d.is
+  areas_is = ap areas_stated d.is ∙ areas_same size (blocks_in size image) v d.physical
+
+  -- what the volume takes of the image
+  pub taken_is : areas_stated volume ≡ taken (layout_in size (block_of size image) v)
+  taken_is = areas_is ∙ sym (taken_are v.list d.physical size (block_of size image) v.anchor)
 
   by_kept : (w : model.Which) (extents : Anchor) → extent_seen (kept_span (volume_by size (blocks_in size image) (record v { which = w }) (logical v.list) (partition v.list)))
       ≡ model.extent_of w v.anchor

@@ -9,7 +9,8 @@ use Rattle.udf_volume_model.specs.Prevailing.{prevailing_index}
 use Rattle.udf_volume_model.specs.Anchor.{Extent, Anchor, blocks_of, blocks_for}
 use Rattle.udf_volume_model.specs.Kept as model
 use Rattle.udf_volume_model.specs.Kept.{kept, other, limit_of, whole_by, sequence_at}
-use Rattle.udf_volume_model.specs.Areas.{areas_of}
+use Rattle.udf_volume_model.specs.Areas.{Layout, taken}
+use Rattle.udf_volume_model.specs.AllRules.{layout_in}
 use Rattle.udf_volume_model.specs.Rules.{ascending_places, is_eligible, eligible, is_good, bad_of, suffice, anchors_hold, agrees, sequences_hold}
 use Rattle.udf_volume_model.specs.Profile.{has_block_size}
 use Rattle.udf_volume_model.specs.Mended.{block_by, logical_block}
@@ -23,7 +24,7 @@ use Rattle.udf_volume.proofs.KeptList.{kept_front}
 use Rattle.udf_volume.proofs.Parted.{parted, none_fails}
 use Rattle.udf_volume.proofs.Prevail.{not_found}
 use Rattle.udf_volume.proofs.Profiled.{no_block_size}
-use Rattle.udf_volume.proofs.Described.{Describes, size_is, blocks_is, anchor_is, limit_is, areas_is, kept_is, other_is}
+use Rattle.udf_volume.proofs.Described.{Describes, size_is, blocks_is, anchor_is, limit_is, taken_is, kept_is, other_is}
 
 -- the places that are not bad are enough
 pub enough : (anchor : Anchor) (disk : ℕ → List ℕ) (eligible bad : List ℕ) → bad ≡ filter (λ place. not (is_good anchor place (disk place))) eligible
@@ -61,20 +62,23 @@ compared volume image kept others spoilt answer k o s e =
     ∙ ap (λ l. agrees (kept_list volume image) (whole_by (limit_stated volume) l)) (sym (listed_is (views_in volume.size image (other_span volume))))
 
 module _ (size : ℕ) (image : List ℕ) (volume : Volume) (v : model.KeptSequence) (d : Describes size image volume v) where
-  pub eligible_is : eligible_stated volume ≡ eligible size (blocks_in size image) v
+  abbrev layout : Layout
+  layout = layout_in size (block_of size image) v
+
+  pub eligible_is : eligible_stated volume ≡ eligible (blocks_in size image) layout
   unfolding eligible
   eligible_is =
-      ap (λ a. filter (is_eligible a) (ascending_places volume.blocks)) (areas_is size image volume v d)
-      ∙ ap (λ n. filter (is_eligible (areas_of size v.anchor v.list)) (ascending_places n)) (blocks_is size image volume v d)
+      ap (λ a. filter (is_eligible a) (ascending_places volume.blocks)) (taken_is size image volume v d)
+      ∙ ap (λ n. filter (is_eligible (taken layout)) (ascending_places n)) (blocks_is size image volume v d)
 
-  pub bad_is : bad_stated volume image ≡ bad_of (block_of size image) v (eligible size (blocks_in size image) v)
+  pub bad_is : bad_stated volume image ≡ bad_of (block_of size image) v (eligible (blocks_in size image) layout)
   bad_is =
       ap (λ a. filter (λ place. not (is_good a place (block_of volume.size image place))) (eligible_stated volume)) (anchor_is size image volume v d)
       ∙ ap (λ s. filter (λ place. not (is_good v.anchor place (block_of s image place))) (eligible_stated volume)) (size_is size image volume v d)
       ∙ ap (λ l. filter (λ place. not (is_good v.anchor place (block_of size image place))) l) eligible_is
 
   -- the rule on anchors
-  pub suffice_is : anchors_suffice volume image ≡ anchors_hold size (blocks_in size image) (block_of size image) v
+  pub suffice_is : anchors_suffice volume image ≡ anchors_hold (blocks_in size image) layout (block_of size image) v
   unfolding anchors_hold
   suffice_is =
       ap (λ a. suffice a (block_of volume.size image) (eligible_stated volume)) (anchor_is size image volume v d)

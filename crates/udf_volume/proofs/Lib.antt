@@ -4,6 +4,7 @@ pub mod Ranking
 pub mod Leads
 pub mod Extents
 pub mod Listing
+pub mod Mapped
 pub mod Searching
 pub mod Opening
 pub mod Outside

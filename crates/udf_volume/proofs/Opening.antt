@@ -1,6 +1,5 @@
 -- What a kept sequence states, and whole blocks.
 use Rattle.std.proofs.Common.{◌≡◌, ℕ, ◌+◌, ◌*◌, ◌/◌, ◌%◌, ◌≤◌, ◌<◌, arith, refl, sym, ◌∙◌, ap, subst, length, ltb, Result, Ok, Err, List, [], Bool, true, false, not, cond, ◌&&◌, Option, Some, None}
-use Rattle.std.specs.Prelude.{is_some}
 use Rattle.std.proofs.lemmas.Nat.{div-add-mod'}
 use Rattle.std.proofs.lemmas.Bool.{lt-ltb, le-ltb}
 use Rattle.udf_model.specs.Image.{block_of}
@@ -13,14 +12,17 @@ use Rattle.udf_volume.specs.declared.kept.AnchorSearch.TheVariants.{Nothing, Unl
 use Rattle.udf_volume.specs.Led.{Finds, led_seen}
 use Rattle.udf_volume.specs.Laid.{is_laid}
 use Rattle.udf_volume.proofs.LaidOut.{laid_is}
-use Rattle.udf_volume_model.specs.Profile.{has_block_size, has_domain, has_revision, has_pointer, has_no_tables}
-use Rattle.udf_volume_model.specs.Layout.{is_lawful}
+use Rattle.udf_volume_model.specs.Profile.{has_block_size, has_domain, has_revision, has_pointer}
+use Rattle.udf_volume_model.specs.Layout.{is_lawful, is_spared}
 use Rattle.udf_layer.specs.declared.missing.ProfileItem.{ProfileItem}
 use Rattle.udf_layer.specs.declared.missing.ProfileItem.TheVariants as item
 use Rattle.udf_volume_model.specs.Sequence.{Descriptor}
 use Rattle.udf_volume_model.specs.Prevailing.{prevailing}
 use Rattle.udf_volume_model.specs.Kept as model
-use Rattle.udf_volume_model.specs.Stated.{body_of, map_number, mapped_partition, has_one_map, is_built, logical, partition}
+use Rattle.udf_volume_model.specs.Maps.{shape_of}
+use Rattle.udf_volume_model.specs.Stated.{body_of, partition_number, mapped_partition, is_lawful_shape, has_maps, is_built_shape, is_built, logical, partition, sparing}
+use Rattle.udf_volume_model.proofs.Physical.{built_physical, always_spared}
+use Rattle.udf_volume.proofs.Profiled.{maps_as, built_as, maps_by}
 use Rattle.udf_volume.specs.declared.volume.Volume.{Volume}
 use Rattle.udf_volume.specs.declared.volume.Which.{Which}
 use Rattle.udf_volume.specs.declared.volume.Which.TheVariants as which
@@ -31,46 +33,46 @@ pub whole_blocks : (bytes size whole : ℕ) → whole ≡ bytes / size → whole
 whole_blocks bytes size whole is = let e : bytes / size * size + bytes % size ≡ bytes = div-add-mod' bytes size in rw is (omega arith)
 
 module _ (size blocks : ℕ) (volume : model.KeptSequence) where
-  stated_by : (built : Bool) → is_built volume.list ≡ built
-      → stated_in size blocks volume ≡ cond built (Some (volume_by size blocks volume (logical volume.list) (partition volume.list))) None
+  stated_by : (maps built : Bool) → has_maps volume.list ≡ maps → is_built volume.list ≡ built
+      → stated_in size blocks volume ≡ cond (maps && built) (Some (volume_by size blocks volume (logical volume.list) (partition volume.list))) None
   unfolding stated_in
-  stated_by built e = ap (λ b. cond b (Some (volume_by size blocks volume (logical volume.list) (partition volume.list))) None) e
+  stated_by maps built e f =
+      ap (λ b. cond (b && is_built volume.list) (Some (volume_by size blocks volume (logical volume.list) (partition volume.list))) None) e
+      ∙ ap (λ b. cond (maps && b) (Some (volume_by size blocks volume (logical volume.list) (partition volume.list))) None) f
 
   logical_is : (found : Option Descriptor) → found ≡ prevailing 6 [] volume.list → logical volume.list ≡ body_of found
   unfolding logical
   logical_is found e = ap body_of (sym e)
 
-  pub not_mapped : (d : Descriptor) → Some d ≡ prevailing 6 [] volume.list → false ≡ has_one_map d.body → None ≡ stated_in size blocks volume
-  unfolding is_built
-  not_mapped d e none = sym (stated_by false
-      (ap (λ l. has_one_map l && is_some (mapped_partition volume.list)) (logical_is (Some d) e)
-      ∙ ap (λ b. b && is_some (mapped_partition volume.list)) (sym none)))
-
-  mapped : (d : Descriptor) (found : Option Descriptor) → Some d ≡ prevailing 6 [] volume.list → found ≡ prevailing 5 (map_number d.body) volume.list
+  mapped : (d : Descriptor) (found : Option Descriptor) → Some d ≡ prevailing 6 [] volume.list → found ≡ prevailing 5 (partition_number d.body) volume.list
       → mapped_partition volume.list ≡ found
-  mapped d found e f = ap (λ l. prevailing 5 (map_number l) volume.list) (logical_is (Some d) e) ∙ sym f
+  mapped d found e f = ap (λ l. prevailing 5 (partition_number l) volume.list) (logical_is (Some d) e) ∙ sym f
 
-  built_as : (d : Descriptor) (found : Option Descriptor) → Some d ≡ prevailing 6 [] volume.list → true ≡ has_one_map d.body
-      → found ≡ prevailing 5 (map_number d.body) volume.list → is_built volume.list ≡ is_some found
-  unfolding is_built
-  built_as d found e one f =
-      ap (λ l. has_one_map l && is_some (mapped_partition volume.list)) (logical_is (Some d) e)
-      ∙ ap (λ b. b && is_some (mapped_partition volume.list)) (sym one)
-      ∙ ap is_some (mapped d found e f)
+  never_built : (maps : Bool) → maps && false ≡ false
+  never_built true = refl
+  never_built false = refl
 
-  pub not_described : (d : Descriptor) → Some d ≡ prevailing 6 [] volume.list → true ≡ has_one_map d.body
-      → None ≡ prevailing 5 (map_number d.body) volume.list → None ≡ stated_in size blocks volume
-  not_described d e one f = sym (stated_by false (built_as d None e one f))
+  pub no_shape : (d : Descriptor) → Some d ≡ prevailing 6 [] volume.list → false ≡ is_lawful_shape (shape_of d.body) → None ≡ stated_in size blocks volume
+  no_shape d e f = sym (stated_by false (is_built volume.list) (maps_as volume.list d e (prevailing 5 (partition_number d.body) volume.list) false f refl) refl)
 
-  pub described : (d p : Descriptor) (answer : Volume) → Some d ≡ prevailing 6 [] volume.list → true ≡ has_one_map d.body
-      → Some p ≡ prevailing 5 (map_number d.body) volume.list → answer ≡ volume_by size blocks volume d.body p.body
-      → Some answer ≡ stated_in size blocks volume
+  pub not_built : (d : Descriptor) → Some d ≡ prevailing 6 [] volume.list → false ≡ is_built_shape (shape_of d.body) → None ≡ stated_in size blocks volume
+  not_built d e f =
+      sym (stated_by (has_maps volume.list) false refl (built_as volume.list d e false f)
+      ∙ ap (λ b. cond b (Some (volume_by size blocks volume (logical volume.list) (partition volume.list))) None) (never_built (has_maps volume.list)))
+
+  pub not_described : (d : Descriptor) → Some d ≡ prevailing 6 [] volume.list → true ≡ is_lawful_shape (shape_of d.body)
+      → None ≡ prevailing 5 (partition_number d.body) volume.list → None ≡ stated_in size blocks volume
+  not_described d e lawful f = sym (stated_by false (is_built volume.list) (maps_as volume.list d e None true lawful f) refl)
+
+  pub described : (d p : Descriptor) (answer : Volume) → Some d ≡ prevailing 6 [] volume.list → true ≡ is_lawful_shape (shape_of d.body)
+      → true ≡ is_built_shape (shape_of d.body) → Some p ≡ prevailing 5 (partition_number d.body) volume.list
+      → answer ≡ volume_by size blocks volume d.body p.body → Some answer ≡ stated_in size blocks volume
   unfolding partition
-  described d p answer e one f is =
+  described d p answer e lawful built f is =
       ap Some (is
       ∙ ap (λ l. volume_by size blocks volume l p.body) (sym (logical_is (Some d) e))
       ∙ ap (λ b. volume_by size blocks volume (logical volume.list) b) (sym (ap body_of (mapped d (Some p) e f))))
-      ∙ sym (stated_by true (built_as d (Some p) e one f))
+      ∙ sym (stated_by true true (maps_as volume.list d e (Some p) true lawful f) (built_as volume.list d e true built))
 
 pub which_back : (w : Which) → w ≡ which_of (which_seen w)
 which_back which.Main = refl
@@ -113,12 +115,12 @@ module _ (size n : ℕ) (image : List ℕ) (is : n ≡ length image) where
       ∙ ap (λ l. by_volume size (n / size) (block_of size image) (has_anchor size (n / size) (block_of size image) l) (kept_sequence_in size (n / size) (block_of size image) l)) (sym at)
       ∙ by_finds size (n / size) (block_of size image) _ _ found f
 
--- a list that is like the profile has built maps
-built_by : (list : List Descriptor) (b : Bool) → is_built list ≡ b → unlike_maps list ≡ None → is_built list ≡ true
-unfolding unlike_maps
-built_by list true e none = e
-built_by list false e none =
-    absurd (let some : Some item.Unbuilt ≡ None = sym (ap (λ x. cond (not x) (Some item.Unbuilt) (cond (not (has_no_tables list)) (Some item.SpaceTables) None)) e) ∙ none in cc)
+-- a list that is like the profile has lawful maps that are built
+built_by : (list : List Descriptor) (maps built : Bool) → has_maps list ≡ maps → is_built list ≡ built → unlike_maps list ≡ None
+    → (has_maps list ≡ true) × (is_built list ≡ true)
+built_by list true true e f none = (e, f)
+built_by list true false e f none = absurd (let some : Some item.Unbuilt ≡ None = sym (maps_by list true false e f) ∙ none in cc)
+built_by list false built e f none = absurd (let some : Some item.PartitionMaps ≡ None = sym (maps_by list false built e f) ∙ none in cc)
 
 maps_of : (list : List Descriptor) (a b c d : Bool) (rest : Option ProfileItem)
     → cond (not a) (Some item.BlockSize) (cond (not b) (Some item.Domain) (cond (not c) (Some item.Revision) (cond d (Some item.VolumePointer) rest))) ≡ None
@@ -129,9 +131,11 @@ maps_of list true true false d rest e = absurd (let some : Some item.Revision �
 maps_of list true true true true rest e = absurd (let some : Some item.VolumePointer ≡ None = e in cc)
 maps_of list true true true false rest e = e
 
-like_is_built : (size : ℕ) (list : List Descriptor) → unlike_profile size list ≡ None → is_built list ≡ true
+pub like_is_built : (size : ℕ) (list : List Descriptor) → unlike_profile size list ≡ None → (has_maps list ≡ true) × (is_built list ≡ true)
 unfolding unlike_profile
-like_is_built size list e = built_by list (is_built list) refl (maps_of list (has_block_size size list) (has_domain list) (has_revision list) (has_pointer list) (unlike_maps list) e)
+like_is_built size list e =
+    built_by list (has_maps list) (is_built list) refl refl
+    (maps_of list (has_block_size size list) (has_domain list) (has_revision list) (has_pointer list) (unlike_maps list) e)
 
 module _ (size blocks : ℕ) (disk : ℕ → List ℕ) (v : model.KeptSequence) where
   abbrev fields : Volume
@@ -139,10 +143,10 @@ module _ (size blocks : ℕ) (disk : ℕ → List ℕ) (v : model.KeptSequence) 
 
   pub unlike : (item : ProfileItem) → Some item ≡ unlike_profile size v.list → accepted size blocks disk v ≡ Err (missing.Profile item)
   unfolding accepted refusal_of
-  unlike item e = ap (λ p. by_refusal (by_profile p (is_lawful size blocks disk v)) fields) (sym e)
+  unlike item e = ap (λ p. by_refusal (by_profile p (is_lawful size blocks disk v) (is_spared size blocks disk v)) fields) (sym e)
 
   stated_as : unlike_profile size v.list ≡ None → stated_in size blocks v ≡ Some fields
-  stated_as e = stated_by size blocks v true (like_is_built size v.list e)
+  stated_as e = let like = like_is_built size v.list e in stated_by size blocks v true true like.0 like.1
 
   -- the maps are built, so that something is stated
   pub unstated : None ≡ unlike_profile size v.list → None ≡ stated_in size blocks v → accepted size blocks disk v ≡ Err (missing.Profile item.Unbuilt)
@@ -151,19 +155,26 @@ module _ (size blocks : ℕ) (disk : ℕ → List ℕ) (v : model.KeptSequence) 
   volume_is : (volume : Volume) → None ≡ unlike_profile size v.list → Some volume ≡ stated_in size blocks v → volume ≡ fields
   volume_is volume e is = let same : Some volume ≡ Some fields = is ∙ stated_as (sym e) in cc
 
-  by_layout : None ≡ unlike_profile size v.list → accepted size blocks disk v ≡ by_refusal (cond (is_lawful size blocks disk v) None (Some missing.Layout)) fields
+  physical : None ≡ unlike_profile size v.list → sparing v.list ≡ None
+  physical e = built_physical v.list (like_is_built size v.list (sym e)).1
+
+  -- a physical partition has no packets that could be unlawful
+  by_layout : None ≡ unlike_profile size v.list → accepted size blocks disk v ≡ by_refusal (cond (not (is_lawful size blocks disk v)) (Some missing.Layout) None) fields
   unfolding accepted refusal_of
-  by_layout e = ap (λ p. by_refusal (by_profile p (is_lawful size blocks disk v)) fields) (sym e)
+  by_layout e =
+      ap (λ p. by_refusal (by_profile p (is_lawful size blocks disk v) (is_spared size blocks disk v)) fields) (sym e)
+      ∙ ap (λ b. by_refusal (by_profile None (is_lawful size blocks disk v) b) fields) (always_spared size blocks disk v (physical e))
+
+  laid_as : (volume : Volume) (laid : Bool) → None ≡ unlike_profile size v.list → Some volume ≡ stated_in size blocks v → laid ≡ is_laid volume disk
+      → accepted size blocks disk v ≡ by_refusal (cond (not laid) (Some missing.Layout) None) fields
+  laid_as volume laid e is f =
+      by_layout e ∙ ap (λ b. by_refusal (cond (not b) (Some missing.Layout) None) fields)
+      (sym (laid_is size blocks v (physical e) disk) ∙ ap (λ x. is_laid x disk) (sym (volume_is volume e is)) ∙ sym f)
 
   pub unlaid : (volume : Volume) → None ≡ unlike_profile size v.list → Some volume ≡ stated_in size blocks v → false ≡ is_laid volume disk
       → accepted size blocks disk v ≡ Err missing.Layout
-  unlaid volume e is laid =
-      by_layout e ∙ ap (λ b. by_refusal (cond b None (Some missing.Layout)) fields)
-      (sym (laid_is size blocks disk v) ∙ ap (λ x. is_laid x disk) (sym (volume_is volume e is)) ∙ sym laid)
+  unlaid volume e is laid = laid_as volume false e is laid
 
   pub accepted_by : (volume : Volume) → None ≡ unlike_profile size v.list → Some volume ≡ stated_in size blocks v → true ≡ is_laid volume disk
       → accepted size blocks disk v ≡ Ok volume
-  accepted_by volume e is laid =
-      by_layout e ∙ ap (λ b. by_refusal (cond b None (Some missing.Layout)) fields)
-      (sym (laid_is size blocks disk v) ∙ ap (λ x. is_laid x disk) (sym (volume_is volume e is)) ∙ sym laid)
-      ∙ ap Ok (sym (volume_is volume e is))
+  accepted_by volume e is laid = laid_as volume true e is laid ∙ ap Ok (sym (volume_is volume e is))

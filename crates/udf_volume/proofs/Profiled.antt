@@ -5,7 +5,8 @@ use Rattle.std.proofs.lemmas.Bool.{ne_eqb}
 use Rattle.udf_model.specs.Bytes as bytes
 use Rattle.udf_volume_model.specs.Sequence.{Descriptor}
 use Rattle.udf_volume_model.specs.Prevailing.{prevailing}
-use Rattle.udf_volume_model.specs.Stated.{body_of, logical, partition, map_number, mapped_partition, has_one_map, is_built}
+use Rattle.udf_volume_model.specs.Maps.{shape_of}
+use Rattle.udf_volume_model.specs.Stated.{body_of, logical, partition, partition_number, mapped_partition, is_lawful_shape, has_maps, is_built_shape, is_built}
 use Rattle.udf_volume_model.specs.Profile.{states_block_size, states_domain, states_revision, has_block_size, domain_identifier, has_domain, has_revision, has_pointer, has_no_tables, names_no_tables}
 use Rattle.udf_volume.specs.declared.profile.TheConstants.{DOMAIN_IDENTIFIER}
 use Rattle.udf_layer.specs.declared.missing.ProfileItem.TheVariants as item
@@ -29,45 +30,55 @@ module _ (list : List Descriptor) where
   no_block_size size large e =
       sym (ap (λ (l : List ℕ). eqb (bytes.number_at 4 l 196) size) (logical_none e) ∙ ne_eqb 0 size (let other : 0 ≢ size = λ z. absurd (omega (arith, large, z)) in other))
 
-  mapped : (d : Descriptor) (found : Option Descriptor) → Some d ≡ prevailing 6 [] list → found ≡ prevailing 5 (map_number d.body) list
+  mapped : (d : Descriptor) (found : Option Descriptor) → Some d ≡ prevailing 6 [] list → found ≡ prevailing 5 (partition_number d.body) list
       → mapped_partition list ≡ found
-  mapped d found e f = ap (λ l. prevailing 5 (map_number l) list) (logical_some d e) ∙ sym f
+  mapped d found e f = ap (λ l. prevailing 5 (partition_number l) list) (logical_some d e) ∙ sym f
 
-  built_as : (d : Descriptor) (found : Option Descriptor) (one_map : Bool) → Some d ≡ prevailing 6 [] list → one_map ≡ has_one_map d.body
-      → found ≡ prevailing 5 (map_number d.body) list → is_built list ≡ (one_map && is_some found)
-  unfolding is_built
-  built_as d found one_map e is f =
-      ap (λ l. has_one_map l && is_some (mapped_partition list)) (logical_some d e)
-      ∙ ap (λ b. b && is_some (mapped_partition list)) (sym is)
-      ∙ ap (λ o. one_map && is_some o) (mapped d found e f)
-
-  unbuilt : is_built list ≡ false → Some item.Unbuilt ≡ unlike_maps list
+  pub maps_by : (maps built : Bool) → has_maps list ≡ maps → is_built list ≡ built
+      → unlike_maps list ≡ cond (not maps) (Some item.PartitionMaps) (cond (not built) (Some item.Unbuilt) (cond (not (has_no_tables list)) (Some item.SpaceTables) None))
   unfolding unlike_maps
-  unbuilt e = sym (ap (λ b. cond (not b) (Some item.Unbuilt) (cond (not (has_no_tables list)) (Some item.SpaceTables) None)) e)
+  maps_by maps built e f =
+      ap (λ b. cond (not b) (Some item.PartitionMaps) (cond (not (is_built list)) (Some item.Unbuilt) (cond (not (has_no_tables list)) (Some item.SpaceTables) None))) e
+      ∙ ap (λ b. cond (not maps) (Some item.PartitionMaps) (cond (not b) (Some item.Unbuilt) (cond (not (has_no_tables list)) (Some item.SpaceTables) None))) f
 
-  pub unbuilt_maps : (d : Descriptor) → Some d ≡ prevailing 6 [] list → false ≡ has_one_map d.body → Some item.Unbuilt ≡ unlike_maps list
-  unbuilt_maps d e is = unbuilt (built_as d (prevailing 5 (map_number d.body) list) false e is refl)
+  -- what the maps are, by the prevailing logical volume descriptor and the partition descriptor that they name
+  module _ (d : Descriptor) (is : Some d ≡ prevailing 6 [] list) where
+    pub maps_as : (found : Option Descriptor) (lawful : Bool) → lawful ≡ is_lawful_shape (shape_of d.body)
+        → found ≡ prevailing 5 (partition_number d.body) list → has_maps list ≡ (lawful && is_some found)
+    unfolding has_maps
+    maps_as found lawful e f =
+        ap (λ (l : List ℕ). is_lawful_shape (shape_of l) && is_some (mapped_partition list)) (logical_some d is)
+        ∙ ap (λ b. b && is_some (mapped_partition list)) (sym e)
+        ∙ ap (λ (o : Option Descriptor). lawful && is_some o) (mapped d found is f)
 
-  pub unbuilt_partition : (d : Descriptor) → Some d ≡ prevailing 6 [] list → true ≡ has_one_map d.body
-      → None ≡ prevailing 5 (map_number d.body) list → Some item.Unbuilt ≡ unlike_maps list
-  unbuilt_partition d e is f = unbuilt (built_as d None true e is f)
+    pub built_as : (built : Bool) → built ≡ is_built_shape (shape_of d.body) → is_built list ≡ built
+    unfolding is_built
+    built_as built e = ap (λ (l : List ℕ). is_built_shape (shape_of l)) (logical_some d is) ∙ sym e
 
-  tables_as : (d p : Descriptor) → Some d ≡ prevailing 6 [] list → true ≡ has_one_map d.body
-      → Some p ≡ prevailing 5 (map_number d.body) list
-      → unlike_maps list ≡ cond (not (names_no_tables p.body)) (Some item.SpaceTables) None
-  unfolding unlike_maps has_no_tables partition
-  tables_as d p e is f =
-      ap (λ b. cond (not b) (Some item.Unbuilt) (cond (not (has_no_tables list)) (Some item.SpaceTables) None)) (built_as d (Some p) true e is f)
-      ∙ ap (λ (l : List ℕ). cond (not (names_no_tables l)) (Some item.SpaceTables) None)
-      (ap body_of (mapped d (Some p) e f))
+    pub other_shape : false ≡ is_lawful_shape (shape_of d.body) → Some item.PartitionMaps ≡ unlike_maps list
+    other_shape e = sym (maps_by false (is_built list) (maps_as (prevailing 5 (partition_number d.body) list) false e refl) refl)
 
-  pub with_tables : (d p : Descriptor) → Some d ≡ prevailing 6 [] list → true ≡ has_one_map d.body
-      → Some p ≡ prevailing 5 (map_number d.body) list → false ≡ names_no_tables p.body → Some item.SpaceTables ≡ unlike_maps list
-  with_tables d p e is f no_tables = sym (tables_as d p e is f ∙ ap (λ b. cond (not b) (Some item.SpaceTables) None) (sym no_tables))
+    pub not_described : true ≡ is_lawful_shape (shape_of d.body) → None ≡ prevailing 5 (partition_number d.body) list → Some item.PartitionMaps ≡ unlike_maps list
+    not_described e f = sym (maps_by false (is_built list) (maps_as None true e f) refl)
 
-  pub without_tables : (d p : Descriptor) → Some d ≡ prevailing 6 [] list → true ≡ has_one_map d.body
-      → Some p ≡ prevailing 5 (map_number d.body) list → true ≡ names_no_tables p.body → None ≡ unlike_maps list
-  without_tables d p e is f no_tables = sym (tables_as d p e is f ∙ ap (λ b. cond (not b) (Some item.SpaceTables) None) (sym no_tables))
+    module _ (p : Descriptor) (lawful : true ≡ is_lawful_shape (shape_of d.body)) (there : Some p ≡ prevailing 5 (partition_number d.body) list) where
+      has : has_maps list ≡ true
+      has = maps_as (Some p) true lawful there
+
+      pub unbuilt : false ≡ is_built_shape (shape_of d.body) → Some item.Unbuilt ≡ unlike_maps list
+      unbuilt e = sym (maps_by true false has (built_as false e))
+
+      tables_as : true ≡ is_built_shape (shape_of d.body) → unlike_maps list ≡ cond (not (names_no_tables p.body)) (Some item.SpaceTables) None
+      unfolding has_no_tables partition
+      tables_as e =
+          maps_by true true has (built_as true e)
+          ∙ ap (λ (l : List ℕ). cond (not (names_no_tables l)) (Some item.SpaceTables) None) (ap body_of (mapped d (Some p) is there))
+
+      pub with_tables : true ≡ is_built_shape (shape_of d.body) → false ≡ names_no_tables p.body → Some item.SpaceTables ≡ unlike_maps list
+      with_tables e no_tables = sym (tables_as e ∙ ap (λ b. cond (not b) (Some item.SpaceTables) None) (sym no_tables))
+
+      pub without_tables : true ≡ is_built_shape (shape_of d.body) → true ≡ names_no_tables p.body → None ≡ unlike_maps list
+      without_tables e no_tables = sym (tables_as e ∙ ap (λ b. cond (not b) (Some item.SpaceTables) None) (sym no_tables))
 
   -- the tests in their order, by the prevailing logical volume descriptor
   module _ (size : ℕ) (d : Descriptor) (is : Some d ≡ prevailing 6 [] list) where

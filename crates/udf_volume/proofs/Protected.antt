@@ -6,22 +6,29 @@ use Rattle.udf_volume_model.specs.Anchor.{places}
 use Rattle.udf_volume_model.specs.Kept as model
 use Rattle.udf_volume_model.specs.Kept.{has_anchor, kept_sequence_of}
 use Rattle.udf_volume_model.specs.Sequence.{Descriptor}
-use Rattle.udf_volume_model.specs.Stated.{is_built, logical, partition}
+use Rattle.udf_volume_model.specs.Stated.{has_maps, is_built, logical, partition}
 use Rattle.udf_volume_model.specs.Profile.{has_block_size, has_domain, has_revision, has_pointer, has_no_tables, is_profile, is_protected as is_protected_list, is_guarded_list}
-use Rattle.udf_volume_model.specs.Layout.{is_lawful}
+use Rattle.udf_volume_model.specs.Layout.{is_lawful, is_spared}
 use Rattle.udf_volume_model.specs.Opened.{is_opened, is_opened_by, is_protected_by, is_protected_image}
 use Rattle.udf_layer.specs.declared.missing.Missing.{Missing}
 use Rattle.udf_layer.specs.declared.missing.Missing.TheVariants as missing
+use Rattle.udf_layer.specs.declared.missing.LayerStop.{LayerStop}
+use Rattle.udf_layer.specs.declared.missing.LayerStop.TheVariants as stops
 use Rattle.udf_layer.specs.declared.missing.ProfileItem.{ProfileItem}
 use Rattle.udf_layer.specs.declared.missing.ProfileItem.TheVariants as item
 use Rattle.udf_volume.specs.declared.volume.Volume.{Volume}
-use Rattle.udf_volume.specs.Opened.{volume_by, is_guarded, unlike_profile, unlike_maps, by_profile, by_refusal, refusal_of, accepted, by_volume, opening}
+use Rattle.udf_volume.specs.Opened.{Answers, volume_by, is_guarded, unlike_profile, unlike_maps, by_profile, by_refusal, refusal_of, accepted, by_volume, opening}
 use Rattle.udf_volume.specs.Writable.{is_protected, by_protection, writable_opening}
 
 module _ (size : ℕ) (image : List ℕ) where
-  pub refused_first : (missing : Missing) → opening size image ≡ Err missing → writable_opening size image ≡ Err missing
+  refused_first : (missing : Missing) → opening size image ≡ Err missing → writable_opening size image ≡ Err missing
   unfolding writable_opening
   refused_first missing e = ap by_protection e
+
+  pub refused_as : (stop : LayerStop) → Answers (opening size image) (Err stop) → Answers (writable_opening size image) (Err stop)
+  refused_as (stops.Missing missing) e = refused_first missing e
+  refused_as stops.Fault e = tt
+  refused_as stops.Memory e = tt
 
   pub protected : (volume : Volume) → opening size image ≡ Ok volume → true ≡ is_protected volume → writable_opening size image ≡ Err missing.WriteProtected
   unfolding writable_opening
@@ -31,54 +38,58 @@ module _ (size : ℕ) (image : List ℕ) where
   unfolding writable_opening
   unprotected volume e p = ap by_protection e ∙ ap (λ b. cond b (Err missing.WriteProtected) (Ok volume)) (sym p)
 
-by_tests : (a b c d e f : Bool) → (a && (b && (c && (not d && (e && f)))))
+by_tests : (a b c d e f g : Bool) → (a && (b && (c && (not d && (e && (f && g))))))
     ≡ is_none (cond (not a) (Some item.BlockSize) (cond (not b) (Some item.Domain) (cond (not c) (Some item.Revision) (cond d (Some item.VolumePointer)
-    (cond (not e) (Some item.Unbuilt) (cond (not f) (Some item.SpaceTables) None))))))
-by_tests false b c d e f = refl
-by_tests true false c d e f = refl
-by_tests true true false d e f = refl
-by_tests true true true true e f = refl
-by_tests true true true false false f = refl
-by_tests true true true false true false = refl
-by_tests true true true false true true = refl
+    (cond (not e) (Some item.PartitionMaps) (cond (not f) (Some item.Unbuilt) (cond (not g) (Some item.SpaceTables) None)))))))
+by_tests false b c d e f g = refl
+by_tests true false c d e f g = refl
+by_tests true true false d e f g = refl
+by_tests true true true true e f g = refl
+by_tests true true true false false f g = refl
+by_tests true true true false true false g = refl
+by_tests true true true false true true false = refl
+by_tests true true true false true true true = refl
 
 profile_is : (size : ℕ) (list : List Descriptor) → is_profile size list ≡ is_none (unlike_profile size list)
 unfolding is_profile unlike_profile unlike_maps
-profile_is size list = by_tests (has_block_size size list) (has_domain list) (has_revision list) (has_pointer list) (is_built list) (has_no_tables list)
+profile_is size list =
+    by_tests (has_block_size size list) (has_domain list) (has_revision list) (has_pointer list) (has_maps list) (is_built list) (has_no_tables list)
 
 protected_is : (size blocks : ℕ) (v : model.KeptSequence) → is_protected (volume_by size blocks v (logical v.list) (partition v.list)) ≡ is_protected_list v.list
 unfolding is_protected volume_by is_protected_list is_guarded is_guarded_list
 protected_is size blocks v = refl
 
 -- with write protection, or without
-by_parts : (item : Option ProfileItem) (lawful : Bool) (volume : Volume)
-    → (is_none item && lawful) ≡ is_ok (by_refusal (by_profile item lawful) volume)
-by_parts (Some item) lawful volume = refl
-by_parts None false volume = refl
-by_parts None true volume = refl
+by_parts : (item : Option ProfileItem) (lawful spared : Bool) (volume : Volume)
+    → (is_none item && (lawful && spared)) ≡ is_ok (by_refusal (by_profile item lawful spared) volume)
+by_parts (Some item) lawful spared volume = refl
+by_parts None false spared volume = refl
+by_parts None true false volume = refl
+by_parts None true true volume = refl
 
-by_guard : (item : Option ProfileItem) (lawful guarded : Bool) (volume : Volume) → is_protected volume ≡ guarded
-    → ((is_none item && lawful) && not guarded) ≡ is_ok (by_protection (by_refusal (by_profile item lawful) volume))
-by_guard (Some item) lawful guarded volume e = refl
-by_guard None false guarded volume e = refl
-by_guard None true true volume e = sym (ap (λ b. is_ok (cond b (Err missing.WriteProtected) (Ok volume))) e)
-by_guard None true false volume e = sym (ap (λ b. is_ok (cond b (Err missing.WriteProtected) (Ok volume))) e)
+by_guard : (item : Option ProfileItem) (lawful spared guarded : Bool) (volume : Volume) → is_protected volume ≡ guarded
+    → ((is_none item && (lawful && spared)) && not guarded) ≡ is_ok (by_protection (by_refusal (by_profile item lawful spared) volume))
+by_guard (Some item) lawful spared guarded volume e = refl
+by_guard None false spared guarded volume e = refl
+by_guard None true false guarded volume e = refl
+by_guard None true true true volume e = sym (ap (λ b. is_ok (cond b (Err missing.WriteProtected) (Ok volume))) e)
+by_guard None true true false volume e = sym (ap (λ b. is_ok (cond b (Err missing.WriteProtected) (Ok volume))) e)
 
 module _ (size blocks : ℕ) (disk : ℕ → List ℕ) (any : Bool) where
   kept_is : (found : Option model.KeptSequence) → is_opened_by size blocks disk found ≡ is_ok (by_volume size blocks disk any found)
   unfolding accepted refusal_of
   kept_is None = elim any as (λ b. false ≡ is_ok (by_volume size blocks disk b None)) [ true ↦ refl | false ↦ refl ]
   kept_is (Some v) =
-      ap (λ b. b && is_lawful size blocks disk v) (profile_is size v.list)
-      ∙ by_parts (unlike_profile size v.list) (is_lawful size blocks disk v) (volume_by size blocks v (logical v.list) (partition v.list))
+      ap (λ b. b && (is_lawful size blocks disk v && is_spared size blocks disk v)) (profile_is size v.list)
+      ∙ by_parts (unlike_profile size v.list) (is_lawful size blocks disk v) (is_spared size blocks disk v) (volume_by size blocks v (logical v.list) (partition v.list))
 
   guarded_is : (found : Option model.KeptSequence)
       → (is_opened_by size blocks disk found && not (is_protected_by found)) ≡ is_ok (by_protection (by_volume size blocks disk any found))
   unfolding accepted refusal_of
   guarded_is None = elim any as (λ b. false ≡ is_ok (by_protection (by_volume size blocks disk b None))) [ true ↦ refl | false ↦ refl ]
   guarded_is (Some v) =
-      ap (λ b. (b && is_lawful size blocks disk v) && not (is_protected_list v.list)) (profile_is size v.list)
-      ∙ by_guard (unlike_profile size v.list) (is_lawful size blocks disk v) (is_protected_list v.list) (volume_by size blocks v (logical v.list) (partition v.list))
+      ap (λ b. (b && (is_lawful size blocks disk v && is_spared size blocks disk v)) && not (is_protected_list v.list)) (profile_is size v.list)
+      ∙ by_guard (unlike_profile size v.list) (is_lawful size blocks disk v) (is_spared size blocks disk v) (is_protected_list v.list) (volume_by size blocks v (logical v.list) (partition v.list))
       (protected_is size blocks v)
 
 fewer : (n : ℕ) → ltb n 4294967296 ≡ not (ltb 4294967295 n)

@@ -8,7 +8,7 @@ use Rattle.udf_layer.specs.declared.area.Area.{Area}
 use Rattle.udf_volume.specs.declared.volume.Volume.{Volume}
 
 abbrev pub area_seen : Area → model.Area
-area_seen area = record { start = area.start; count = area.count }
+area_seen area = record { start = area.start; count = area.blocks }
 
 abbrev pub area_stated : ℕ → Span → model.Area
 area_stated size span = record { start = span.start; count = blocks_for size span.length }

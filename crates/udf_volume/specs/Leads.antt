@@ -11,7 +11,7 @@ pub record IsLeading (list : List Descriptor) (leading : Leading) : Type 0 where
   pub primary_inside : leading.primary < length list
   pub logical : Some leading.logical ≡ prevailing_index 6 [] list
   pub logical_inside : leading.logical < length list
-  pub partition : leading.partition ≡ prevailing_index 5 (stated.map_number (stated.logical list)) list
+  pub partition : leading.partition ≡ prevailing_index 5 (stated.partition_number (stated.logical list)) list
   pub partition_inside : IfSome leading.partition (λ i. i < length list)
   pub information : leading.information ≡ prevailing_index 4 stated.volume_information list
   pub information_inside : IfSome leading.information (λ i. i < length list)

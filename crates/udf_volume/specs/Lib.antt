@@ -1,5 +1,5 @@
-pub mod Causes
 pub mod Views
+pub mod Maps
 pub mod Seen
 pub mod Best
 pub mod Leads

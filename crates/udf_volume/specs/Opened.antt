@@ -1,5 +1,5 @@
 -- What `open_volume` answers.
-use Rattle.std.specs.Prelude.{◌≡◌, ◌⊎◌, ℕ, Bool, ◌≤◌, ◌<◌, ◌+◌, ◌-◌, ◌^◌, ◌%◌, ◌==◌, not, nat_lt, if◌then◌else◌, List, [], length, Option, Some, None, option_map, unwrap_or, true, Result, Ok, Err, slice_index}
+use Rattle.std.specs.Prelude.{◌≡◌, ◌⊎◌, ℕ, Bool, ◌≤◌, ◌<◌, ◌+◌, ◌-◌, ◌^◌, ◌%◌, ◌==◌, ◌&&◌, not, nat_lt, if◌then◌else◌, List, [], length, Option, Some, None, option_map, unwrap_or, true, Result, Ok, Err, slice_index}
 use Rattle.udf_model.specs.Image.{block_of, blocks_in}
 use Rattle.udf_volume_model.specs.Prevailing.{number_in, prevailing_index}
 use Rattle.udf_volume_model.specs.Anchor.{places, is_extent}
@@ -7,8 +7,8 @@ use Rattle.udf_volume_model.specs.Kept as model_kept
 use Rattle.udf_volume_model.specs.Kept.{kept, kept_sequence_of, has_anchor}
 use Rattle.udf_volume_model.specs.Sequence.{Descriptor}
 use Rattle.udf_volume_model.specs.Profile.{has_block_size, has_domain, has_revision, has_pointer, has_no_tables}
-use Rattle.udf_volume_model.specs.Layout.{is_lawful}
-use Rattle.udf_volume_model.specs.Stated.{map_number, logical, partition, is_built, volume_information}
+use Rattle.udf_volume_model.specs.Layout.{is_lawful, is_spared}
+use Rattle.udf_volume_model.specs.Stated.{partition_number, logical, partition, has_maps, is_built, volume_information}
 use Rattle.udf_field.specs.FieldView.{short_at, long_at, span_at}
 use Rattle.udf_field.specs.declared.address.Short.{Short}
 use Rattle.udf_volume.specs.Seen.{extent_seen, span_of}
@@ -52,7 +52,7 @@ volume_by size blocks volume logical partition = record {
   count = length volume.list;
   pvd = unwrap_or (sector_in volume 1 []) 0;
   lvd = unwrap_or (sector_in volume 6 []) 0;
-  pd = unwrap_or (sector_in volume 5 (map_number logical)) 0;
+  pd = unwrap_or (sector_in volume 5 (partition_number logical)) 0;
   info = sector_in volume 4 volume_information;
   shape = record { base = 0; sparing = None; upper = Absent };
   start = number_in 4 partition 188;
@@ -65,15 +65,16 @@ volume_by size blocks volume logical partition = record {
   guarded = is_guarded (slice_index logical (242 - 16));
 }
 
--- what the descriptors of a kept sequence state, where its maps are built
+-- what the descriptors of a kept sequence state, where its maps are lawful and built
 unfoldable pub stated_in : ℕ → ℕ → model_kept.KeptSequence → Option Volume
 stated_in size blocks volume =
-    if is_built volume.list then Some (volume_by size blocks volume (logical volume.list) (partition volume.list)) else None
+    if has_maps volume.list && is_built volume.list then Some (volume_by size blocks volume (logical volume.list) (partition volume.list)) else None
 
 -- what the maps and the partition's header have that the profile has not
 unfoldable pub unlike_maps : List Descriptor → Option ProfileItem
 unlike_maps list =
-    if not (is_built list) then Some item.Unbuilt
+    if not (has_maps list) then Some item.PartitionMaps
+    else if not (is_built list) then Some item.Unbuilt
     else if not (has_no_tables list) then Some item.SpaceTables
     else None
 
@@ -86,13 +87,13 @@ unlike_profile size list =
     else if has_pointer list then Some item.VolumePointer
     else unlike_maps list
 
-abbrev pub by_profile : Option ProfileItem → Bool → Option Missing
-by_profile (Some item) lawful = Some (missing.Profile item)
-by_profile None lawful = if lawful then None else Some missing.Layout
+abbrev pub by_profile : Option ProfileItem → Bool → Bool → Option Missing
+by_profile (Some item) lawful spared = Some (missing.Profile item)
+by_profile None lawful spared = if not lawful then Some missing.Layout else if not spared then Some missing.SparingTable else None
 
 -- the first refusal of a kept sequence
 unfoldable pub refusal_of : ℕ → ℕ → (ℕ → List ℕ) → model_kept.KeptSequence → Option Missing
-refusal_of size blocks disk volume = by_profile (unlike_profile size volume.list) (is_lawful size blocks disk volume)
+refusal_of size blocks disk volume = by_profile (unlike_profile size volume.list) (is_lawful size blocks disk volume) (is_spared size blocks disk volume)
 
 abbrev pub by_refusal : Option Missing → Volume → Result Volume Missing
 by_refusal (Some missing) volume = Err missing

@@ -11,6 +11,7 @@ IsOfVolume missing.Anchor = Unit {0}
 IsOfVolume missing.Sequence = Unit {0}
 IsOfVolume (missing.Profile item) = Unit {0}
 IsOfVolume missing.Layout = Unit {0}
+IsOfVolume missing.SparingTable = Unit {0}
 IsOfVolume missing.WriteProtected = ⊥
 
 abbrev pub RefusesVolume : LayerStop → Type 0

@@ -24,10 +24,10 @@ const BITMAP_HEADER: u64 = 24;
 fn is_apart(a: Area, b: Area) -> bool
     ensures { result ≡ apart (area_seen a) (area_seen b) }
 {
-    a.count == 0
-        || b.count == 0
-        || a.start as u64 + a.count as u64 <= b.start as u64
-        || b.start as u64 + b.count as u64 <= a.start as u64
+    a.blocks == 0
+        || b.blocks == 0
+        || a.start as u64 + a.blocks as u64 <= b.start as u64
+        || b.start as u64 + b.blocks as u64 <= a.start as u64
 }
 
 fn is_apart_from_all(area: Area, others: &[Area]) -> bool
@@ -54,7 +54,7 @@ fn are_apart(areas: &[Area]) -> bool
 fn is_inside(area: Area, blocks: u32) -> bool
     ensures { result ≡ inside blocks (area_seen area) }
 {
-    area.start as u64 + area.count as u64 <= blocks as u64
+    area.start as u64 + area.blocks as u64 <= blocks as u64
 }
 
 fn are_inside(areas: &[Area], blocks: u32) -> bool

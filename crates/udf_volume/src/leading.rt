@@ -6,8 +6,8 @@ ghost use Rattle.udf_volume.specs.Leads.{IsLeading};
 
 use crate::Descriptor;
 use crate::descriptor::{IMPLEMENTATION_USE, LOGICAL_VOLUME, PARTITION, PRIMARY};
+use crate::maps::partition_number;
 use crate::prevailing::{best_of, prevailing_index};
-use crate::profile::map_number;
 
 /// The descriptors that prevail in a list and by which a volume is stated, by their indexes.
 #[derive(Clone, Copy, Debug)]
@@ -42,7 +42,7 @@ pub(crate) fn leading_of(list: &[Descriptor]) -> Leading
 {
     let primary = index_of_only(list, PRIMARY);
     let logical = index_of_only(list, LOGICAL_VOLUME);
-    let partition = prevailing_index(list, PARTITION, map_number(&list[logical]));
+    let partition = prevailing_index(list, PARTITION, partition_number(&list[logical]));
     let information = prevailing_index(list, IMPLEMENTATION_USE, &LV_INFO);
     Leading {
         primary,

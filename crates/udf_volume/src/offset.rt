@@ -11,16 +11,16 @@ pub(crate) const REVISION: usize = 240 - TAG;
 
 pub(crate) const PROTECTION: usize = 242 - TAG;
 
-/// Its file set, the number of its maps, its integrity extent, and of the first map the type and the partition number.
+/// Its file set, the length of its map table in bytes, the number of its maps, its integrity extent, and its map table.
 pub(crate) const FILE_SET: usize = 248 - TAG;
+
+pub(crate) const MAP_TABLE_LENGTH: usize = 264 - TAG;
 
 pub(crate) const MAP_COUNT: usize = 268 - TAG;
 
 pub(crate) const INTEGRITY: usize = 432 - TAG;
 
-pub(crate) const MAP: usize = 440 - TAG;
-
-pub(crate) const MAP_PARTITION: usize = 444 - TAG;
+pub(crate) const MAPS: usize = 440 - TAG;
 
 /// Of a partition descriptor (3/10.5), in the header in its contents use (4/14.3): the space table and bitmap, the integrity
 /// table, and the table and bitmap of freed space.

@@ -8,7 +8,7 @@ ghost use Rattle.udf_outside.specs.declared.bench.Role.TheVariants.{Image};
 ghost use Rattle.udf_volume_model.specs.Kept.{kept};
 ghost use Rattle.udf_volume_model.specs.Sequence as model;
 ghost use Rattle.udf_volume_model.specs.Prevailing.{prevailing_index as index_of};
-ghost use Rattle.udf_volume_model.specs.Stated.{map_number as number_of_map, volume_information};
+ghost use Rattle.udf_volume_model.specs.Stated.{partition_number as number_of_map, volume_information};
 ghost use Rattle.udf_volume.specs.Laid.{IsLaidOut};
 ghost use Rattle.udf_volume.specs.Leads.{IsLeading};
 ghost use Rattle.udf_volume.specs.Led.{IsLed, led_seen};
@@ -19,10 +19,11 @@ ghost use Rattle.udf_volume.specs.Over.{HasBlocks};
 use crate::anchor::places_of;
 use crate::kept::{AnchorSearch, Led, search};
 use crate::layout::is_lawful;
+use crate::maps::{has_lawful_shape, is_built};
 use crate::offset::{
     ACCESS, FILE_SET, INTEGRITY, LENGTH, PROTECTION, REVISION, SPACE_BITMAP, START,
 };
-use crate::profile::{has_one_map, unlike_profile};
+use crate::profile::unlike_profile;
 use crate::{Descriptor, LayerStop, Missing, ProfileItem, Shape, Upper, Volume};
 use std::alloc::Global;
 use udf_field::{Fields, Short};
@@ -118,14 +119,17 @@ fn volume_of(led: &Led, size: u32, blocks: u32, logical: &Descriptor, at: usize)
     }
 }
 
-// What a kept sequence states, where its maps are built.
+// What a kept sequence states, where its maps are lawful and built.
 fn stated(led: &Led, size: u32, blocks: u32) -> Option<Volume>
     requires { IsLed size blocks led.now }
     ensures value { result ≡ stated_in size blocks (led_seen led.now) }
     ensures bounds { IfSome result (IsBounded size blocks) }
 {
     let logical = &led.descriptors[led.leading.logical];
-    if !has_one_map(&logical.fields()) {
+    if !has_lawful_shape(logical) {
+        return None;
+    }
+    if !is_built(logical) {
         return None;
     }
     let Some(at) = led.leading.partition else {

@@ -1,22 +1,18 @@
 //! The profile: what the kept descriptors must state.
 ghost use Rattle.std.specs.Prelude.{◌≡◌, ◌≤◌, ◌+◌, length};
 ghost use Rattle.udf_volume_model.specs.Profile.{states_block_size, states_domain, states_revision, has_pointer as pointer_in, is_absent as absent_in, names_no_tables as no_tables_in};
-ghost use Rattle.udf_volume_model.specs.Stated.{map_number as number_of_map, has_one_map as one_map_in};
 ghost use Rattle.udf_volume.specs.Leads.{IsLeading};
 ghost use Rattle.udf_volume.specs.Opened.{unlike_profile as unlike, unlike_maps as unlike_maps_in};
 
 use crate::descriptor::POINTER;
 use crate::kept::has_descriptor;
 use crate::leading::Leading;
+use crate::maps::{has_lawful_shape, is_built};
 use crate::offset::{
-    BLOCK_SIZE, DOMAIN, FREED_BITMAP, FREED_TABLE, INTEGRITY_TABLE, MAP, MAP_COUNT, MAP_PARTITION,
-    REVISION, SPACE_TABLE,
+    BLOCK_SIZE, DOMAIN, FREED_BITMAP, FREED_TABLE, INTEGRITY_TABLE, REVISION, SPACE_TABLE,
 };
 use crate::{Descriptor, ProfileItem};
 use udf_field::Fields;
-
-/// The type of a map of a physical partition (3/10.7.2).
-const TYPE_1: u8 = 1;
 
 /// The least and the greatest revision (UDF 2.1.5.3).
 const LEAST_REVISION: u16 = 0x0100;
@@ -46,23 +42,6 @@ fn has_revision(logical: &Descriptor) -> bool
     LEAST_REVISION <= revision && revision <= GREATEST_REVISION
 }
 
-/// Whether there is one partition map, of type 1.
-#[tactic(auto, unfolding(udf_volume_model::specs::Stated::has_one_map))]
-pub(crate) fn has_one_map(logical: &Fields<'_>) -> bool
-    requires { 496 ≤ length logical.now }
-    ensures { result ≡ one_map_in logical.now }
-{
-    logical.u32_at(MAP_COUNT) == 1 && logical.u8_at(MAP) == TYPE_1
-}
-
-/// The bytes of the partition number of the first map.
-#[tactic(auto, unfolding(udf_volume_model::specs::Stated::map_number))]
-pub(crate) fn map_number(logical: &Descriptor) -> &[u8]
-    ensures { result.now ≡ number_of_map logical.now.body }
-{
-    &logical.body()[MAP_PARTITION..MAP_PARTITION + 2]
-}
-
 #[tactic(auto, unfolding(udf_volume_model::specs::Profile::is_absent))]
 fn is_absent(fields: &Fields<'_>, at: usize) -> bool
     requires { at + 8 ≤ length fields.now }
@@ -89,13 +68,16 @@ fn unlike_maps(list: &[Descriptor], leading: &Leading) -> Option<ProfileItem>
     ensures { result ≡ unlike_maps_in list.now }
 {
     let logical = &list[leading.logical];
-    if !has_one_map(&logical.fields()) {
-        return Some(ProfileItem::Unbuilt);
+    if !has_lawful_shape(logical) {
+        return Some(ProfileItem::PartitionMaps);
     }
     let Some(at) = leading.partition else {
-        return Some(ProfileItem::Unbuilt);
+        return Some(ProfileItem::PartitionMaps);
     };
     let partition = &list[at];
+    if !is_built(logical) {
+        return Some(ProfileItem::Unbuilt);
+    }
     if names_no_tables(&partition.fields()) {
         None
     } else {

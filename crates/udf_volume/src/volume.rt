@@ -4,6 +4,7 @@ ghost use Rattle.udf_volume_model.specs.Anchor.{blocks_for};
 ghost use Rattle.udf_volume.specs.Spans.{kept_span, other_span, limit_stated};
 
 use crate::anchor::blocks_of;
+use crate::{MetaMap, SparingMap};
 use udf_field::{Long, Short, Span};
 
 /// One of the two sequences that an anchor names.
@@ -11,28 +12,6 @@ use udf_field::{Long, Short, Span};
 pub enum Which {
     Main,
     Reserve,
-}
-
-/// A sparable partition map (UDF 2.2.9): blocks in a packet, number of tables, bytes of a table, and the tables' sectors.
-#[derive(Clone, Copy, Debug, PartialEq, Eq)]
-pub struct SparingMap {
-    pub packet: u16,
-    pub count: u8,
-    pub bytes: u32,
-    pub at: [u32; 4],
-}
-
-/// A metadata partition map (UDF 2.2.10): the blocks of the entries of the main, the mirror and the bitmap file
-/// (0xFFFFFFFF for none), allocation and alignment unit in blocks, and the flags, of which bit 0 says that the mirror is a
-/// duplicate.
-#[derive(Clone, Copy, Debug, PartialEq, Eq)]
-pub struct MetaMap {
-    pub main: u32,
-    pub mirror: u32,
-    pub bitmap: u32,
-    pub unit: u32,
-    pub align: u16,
-    pub flags: u8,
 }
 
 /// What stands over the base partition.

@@ -36,7 +36,7 @@ impl Volume {
 
 /// The volume of an image that a repair may write, or the first refusal. `size` is the block size, at least 512, and
 /// `length` the image's length in bytes.
-#[tactic(auto, using(crate::proofs::Protected::refused_first, crate::proofs::Protected::protected, crate::proofs::Protected::unprotected))]
+#[tactic(auto, using(crate::proofs::Protected::refused_as, crate::proofs::Protected::protected, crate::proofs::Protected::unprotected))]
 pub fn open_writable<B: Bench>(
     alloc: Global,
     bench: &mut B,

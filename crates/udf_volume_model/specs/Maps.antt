@@ -35,10 +35,10 @@ unfoldable pub map_count : List ℕ → ℕ
 map_count body = number_in 4 body 268
 
 -- the bytes of a map of type 1 (3/10.7.2) and of type 2 (3/10.7.3)
-unfoldable pub first_length : ℕ
+abbrev pub first_length : ℕ
 first_length = 6
 
-unfoldable pub second_length : ℕ
+abbrev pub second_length : ℕ
 second_length = 64
 
 -- a map of this type and length begins some bytes, which hold all of it (3/10.7.1)
