@@ -4,6 +4,11 @@ pub mod Prevail
 pub mod Rising
 pub mod Prevailed
 pub mod Deviating
+pub mod Says
+pub mod Fronts
+pub mod Cut
+pub mod TableCopy
+pub mod TableEdits
 pub mod Findings
 pub mod Order
 pub mod Walk

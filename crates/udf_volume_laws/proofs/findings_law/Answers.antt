@@ -1,3 +1,7 @@
+use Rattle.udf_volume_laws.proofs.TableEdits.{unwritten_area}
+use Rattle.udf_volume_laws.proofs.Cut.{cut_back}
+use Rattle.udf_volume_laws.proofs.Says.{same_entries}
+use Rattle.udf_volume_laws.proofs.Fronts.{whole_front}
 use Rattle.udf_volume_laws.proofs.Findings.{unbroken, broken}
 use Rattle.udf_volume_laws.proofs.Order.{order}
 use Rattle.udf_volume_laws.proofs.findings_law.Goals as goal
