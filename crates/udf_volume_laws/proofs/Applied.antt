@@ -12,7 +12,8 @@ use Rattle.udf_volume_laws.proofs.Puts.{AreWithin, off, chosen, chosen_off, chos
 use Rattle.udf_volume_laws.proofs.Members.{IsIn, in_range, range_in, kept_in, in_kept}
 use Rattle.udf_volume_laws.proofs.Within.{block_ends}
 use Rattle.udf_volume_laws.proofs.Final.{block_length}
-use Rattle.udf_volume_laws.proofs.Difference.{same_image, same_bytes, length_kept, past_kept}
+use Rattle.udf_volume_laws.proofs.Difference.{same_image, length_kept, past_kept}
+use Rattle.udf_volume_laws.proofs.Same.{same_bytes}
 
 module _ (size : ℕ) (image after : List ℕ) (some : 0 < size) (long : length after ≡ length image) where
   abbrev differs : ℕ → Bool

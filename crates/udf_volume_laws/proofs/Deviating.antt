@@ -52,6 +52,35 @@ tables_distinct count (x ∷ xs) some e =
     by_side (inl h) = omega arith
     by_side (inr h) = omega arith
 
+-- tables that are apart stand at one sector, or apart
+pub tables_apart : (count : ℕ) (xs : List ℕ) → 0 < count → are_apart (map (λ at. record { start = at; count = count }) xs) ≡ true
+    → (a b : ℕ) → IsIn a xs → IsIn b xs → (b ≡ a) ⊎ ((b + count ≤ a) ⊎ (a + count ≤ b))
+unfolding are_apart
+tables_apart count [] some e a b i j = absurd i
+tables_apart count (x ∷ xs) some e a b i j = by_both (tables_apart count xs some parts.1 a b) i j where
+  of : ℕ → Area
+  of at = record { start = at; count = count }
+
+  parts : (list_all (is_apart (of x)) (map of xs) ≡ true) × (are_apart (map of xs) ≡ true)
+  parts = and_parts (list_all (is_apart (of x)) (map of xs)) (are_apart (map of xs)) e
+
+  from_first : (y : ℕ) → IsIn y xs → (x + count ≤ y) ⊎ (y + count ≤ x)
+  from_first y k = apart (of x) (of y) (all_at (is_apart (of x)) (map of xs) (of y) parts.0 (mapped_in of xs y k)) some some
+
+  after : a ≡ x → (x + count ≤ b) ⊎ (b + count ≤ x) → (b ≡ a) ⊎ ((b + count ≤ a) ⊎ (a + count ≤ b))
+  after is (inl h) = inr (inr (omega arith))
+  after is (inr h) = inr (inl (omega arith))
+
+  before : b ≡ x → (x + count ≤ a) ⊎ (a + count ≤ x) → (b ≡ a) ⊎ ((b + count ≤ a) ⊎ (a + count ≤ b))
+  before is (inl h) = inr (inl (omega arith))
+  before is (inr h) = inr (inr (omega arith))
+
+  by_both : (IsIn a xs → IsIn b xs → (b ≡ a) ⊎ ((b + count ≤ a) ⊎ (a + count ≤ b))) → IsIn a (x ∷ xs) → IsIn b (x ∷ xs) → (b ≡ a) ⊎ ((b + count ≤ a) ⊎ (a + count ≤ b))
+  by_both rest (inl is) (inl same) = inl (same ∙ sym is)
+  by_both rest (inl is) (inr k) = after is (from_first b k)
+  by_both rest (inr k) (inl is) = before is (from_first a k)
+  by_both rest (inr k) (inr l) = rest k l
+
 pub areas_lawful : (size blocks : ℕ) (disk : ℕ → List ℕ) (volume : KeptSequence) → is_lawful size blocks disk volume ≡ true
     → are_lawful size blocks volume.list (areas_of size volume.anchor volume.list) ≡ true
 unfolding is_lawful

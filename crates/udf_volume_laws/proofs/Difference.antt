@@ -16,7 +16,8 @@ use Rattle.udf_volume_model.specs.Opened.{is_opened, volume_mended, is_volume_un
 use Rattle.udf_volume_laws.proofs.After.{IsOpened, partition_stays, sealed_stays, past_stays}
 use Rattle.udf_volume_laws.proofs.Final.{opened_parts, held_of, put_disk, mended_is, mended_image}
 use Rattle.udf_volume_laws.proofs.Twice.{unopened, stays}
-use Rattle.udf_volume_laws.proofs.Same.{bytes_same}
+use Rattle.udf_volume_laws.proofs.Same.{bytes_same, same_bytes}
+use Rattle.udf_volume_laws.proofs.Members.{none_kept}
 
 -- a byte is that of its block
 byte_of : (size : ℕ) (image : List ℕ) (i : ℕ) → 0 < size → get_or (block_of size image (i / size)) (i % size) 0 ≡ get_or image i 0
@@ -32,9 +33,6 @@ byte_of size image i some =
 pub same_image : (size : ℕ) (image other : List ℕ) → 0 < size → length image ≡ length other → block_of size image ≡ block_of size other → image ≡ other
 same_image size image other some long same =
     ext_get_or 0 image other long (λ i l. sym (byte_of size image i some) ∙ ap (λ f. get_or (f (i / size)) (i % size) 0) same ∙ byte_of size other i some)
-
-pub same_bytes : (xs ys : List ℕ) → bytes_eq xs ys ≡ true → xs ≡ ys
-same_bytes xs ys e = (bytes_eq-Decides xs ys).0 e
 
 none_left : (test : ℕ → Bool) (count start n : ℕ) → filter (λ m. not (test m)) (range_with_len start count) ≡ [] → start ≤ n → n < start + count → test n ≡ true
 none_left test zero start n e l h = absurd (omega arith)
@@ -97,15 +95,11 @@ no_difference size image large a none =
       by_order n (inl below) = sym (no_difference_block size image (volume_mended size image) n none below)
       by_order n (inr past) = past_kept size image n large past
 
-none_differ : (test : ℕ → Bool) (xs : List ℕ) → ((n : ℕ) → test n ≡ true) → filter (λ m. not (test m)) xs ≡ []
-none_differ test [] h = refl
-none_differ test (x ∷ xs) h = ap (λ b. cond (not b) (x ∷ filter (λ m. not (test m)) xs) (filter (λ m. not (test m)) xs)) (h x) ∙ none_differ test xs h
-
 pub no_broken_rule : (size : ℕ) (image : List ℕ) → is_volume_unbroken size image ≡ true → difference size image (volume_mended size image) ≡ []
 unfolding difference
 no_broken_rule size image e =
-    none_differ (λ n. bytes_eq (block_of size image n) (block_of size (volume_mended size image) n)) (range_with_len 0 (blocks_in size image))
-    (λ n. ap (λ m. bytes_eq (block_of size image n) (block_of size m n)) (stays size image e) ∙ bytes_same (block_of size image n))
+    none_kept (λ n. bytes_eq (block_of size image n) (block_of size (volume_mended size image) n)) (range_with_len 0 (blocks_in size image))
+    (λ n i. ap (λ m. bytes_eq (block_of size image n) (block_of size m n)) (stays size image e) ∙ bytes_same (block_of size image n))
 
 some_left : (xs : List ℕ) → (xs ≡ [] → ⊥) → 1 ≤ length xs
 some_left [] h = absurd (h refl)

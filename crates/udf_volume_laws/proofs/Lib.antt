@@ -9,6 +9,9 @@ pub mod Fronts
 pub mod Cut
 pub mod TableCopy
 pub mod TableEdits
+pub mod TablesAfter
+pub mod Taken
+pub mod Spares
 pub mod Findings
 pub mod Order
 pub mod Walk

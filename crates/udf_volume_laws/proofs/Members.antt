@@ -1,5 +1,5 @@
 -- Lists, tests and members.
-use Rattle.std.proofs.Common.{◌≡◌, ℕ, zero, suc, ◌+◌, ◌<◌, ◌≤◌, arith, refl, sym, ◌∙◌, ap, List, [], ◌∷◌, ◌++◌, map, Bool, true, false, cond, ◌&&◌, get_or, length, Option, Some, inl, inr, ◌⊎◌}
+use Rattle.std.proofs.Common.{◌≡◌, ℕ, zero, suc, ◌+◌, ◌<◌, ◌≤◌, arith, refl, sym, ◌∙◌, ap, List, [], ◌∷◌, ◌++◌, map, Bool, true, false, cond, not, ◌&&◌, get_or, length, Option, Some, inl, inr, ◌⊎◌}
 use Rattle.std.specs.Prelude.{slice_get}
 use Rattle.std.specs.List.{list_all, filter, find, range_with_len}
 use Rattle.std.proofs.lemmas.Bool.{and_parts, and_from, cases_lt}
@@ -126,3 +126,13 @@ find_some {X = X} test (y ∷ xs) x i t = by_test (find_some test xs x) (test y)
   by_test rest true e j = (y, refl)
   by_test rest false e (inl here) = let f : test x ≡ false = ap test here ∙ e in absurd (cc)
   by_test rest false e (inr later) = rest later t
+
+pub same_find : {X : Type 0} (p q : X → Bool) (xs : List X) → ((x : X) → IsIn x xs → p x ≡ q x) → find p xs ≡ find q xs
+same_find p q [] h = refl
+same_find p q (x ∷ xs) h =
+    ap (λ b. cond b (Some x) (find p xs)) (h x (inl refl)) ∙ ap (cond (q x) (Some x)) (same_find p q xs (λ n i. h n (inr i)))
+
+pub none_kept : {X : Type 0} (test : X → Bool) (xs : List X) → ((x : X) → IsIn x xs → test x ≡ true) → filter (λ x. not (test x)) xs ≡ []
+none_kept test [] h = refl
+none_kept test (x ∷ xs) h =
+    ap (λ b. cond (not b) (x ∷ filter (λ y. not (test y)) xs) (filter (λ y. not (test y)) xs)) (h x (inl refl)) ∙ none_kept test xs (λ n i. h n (inr i))

@@ -8,7 +8,7 @@ use Rattle.udf_field.specs.FieldView.{entity_is}
 use Rattle.udf_volume_model.specs.Anchor.{blocks_for}
 use Rattle.udf_volume_model.specs.Maps.{SparingMap}
 use Rattle.udf_volume_model.specs.SparingTable.{bytes_from, table_area, table_end, is_table, table_number, sequence_number, at_most, is_top, is_highest, prevailing_table, listed_area, listed_number, prevailing_area}
-use Rattle.udf_volume_laws.proofs.Members.{IsIn, all_at, all_from, in_range, range_in, at_index, index_of, find_passes, find_some}
+use Rattle.udf_volume_laws.proofs.Members.{IsIn, all_at, all_from, in_range, range_in, at_index, index_of, find_passes, find_some, same_find, same_all}
 
 -- what a whole table is
 pub record IsWholeTable (bytes at : ℕ) (area : List ℕ) : Type 0 where
@@ -157,3 +157,35 @@ some_blocks size disk s table p = by_count (blocks_for size s.bytes) refl where
       let none : table ≡ [] = p.is ∙ ap (bytes_from disk p.at) e in
       absurd (omega (arith, (whole_table s.bytes p.at table p.whole).room, ap length none))
   by_count (suc count) e = omega arith
+
+-- the table that prevails is read from the areas of the listed ones alone
+module _ (size : ℕ) (disk other : ℕ → List ℕ) (s : SparingMap) (same : (at : ℕ) → IsIn at s.tables → area_at size disk s at ≡ area_at size other s at) where
+  same_number : (i : ℕ) → i < length s.tables → listed_number size disk s i ≡ listed_number size other s i
+  same_number i h = ap (table_number s.bytes (get_or s.tables i 0)) (same (get_or s.tables i 0) (at_index s.tables i h))
+
+  same_top : (o : Option ℕ) → is_top (λ n. list_all (λ k. at_most (listed_number size disk s k) n) (range_with_len 0 (length s.tables))) o
+      ≡ is_top (λ n. list_all (λ k. at_most (listed_number size other s k) n) (range_with_len 0 (length s.tables))) o
+  same_top None = refl
+  same_top (Some n) = same_all (λ k. at_most (listed_number size disk s k) n) (λ k. at_most (listed_number size other s k) n) (range_with_len 0 (length s.tables))
+      (λ k i. ap (λ o. at_most o n) (same_number k (omega (arith, (range_in (length s.tables) 0 k i).1))))
+
+  same_highest : (i : ℕ) → IsIn i (range_with_len 0 (length s.tables))
+      → is_highest (listed_number size disk s) (length s.tables) i ≡ is_highest (listed_number size other s) (length s.tables) i
+  unfolding is_highest
+  same_highest i j =
+      same_top (listed_number size disk s i)
+      ∙ ap (is_top (λ n. list_all (λ k. at_most (listed_number size other s k) n) (range_with_len 0 (length s.tables)))) (same_number i (omega (arith, (range_in (length s.tables) 0 i j).1)))
+
+  same_listed : (o : Option ℕ) → find (is_highest (listed_number size other s) (length s.tables)) (range_with_len 0 (length s.tables)) ≡ o
+      → option_map (listed_area size disk s) o ≡ option_map (listed_area size other s) o
+  same_listed None e = refl
+  same_listed (Some i) e =
+      let found = find_passes (is_highest (listed_number size other s) (length s.tables)) (range_with_len 0 (length s.tables)) i e in
+      ap (λ (l : List ℕ). Some l) (same (get_or s.tables i 0) (at_index s.tables i (omega (arith, (range_in (length s.tables) 0 i found.0).1))))
+
+  pub same_prevailing : prevailing_area size disk s ≡ prevailing_area size other s
+  unfolding prevailing_area prevailing_table
+  same_prevailing =
+      ap (option_map (listed_area size disk s))
+      (same_find (is_highest (listed_number size disk s) (length s.tables)) (is_highest (listed_number size other s) (length s.tables)) (range_with_len 0 (length s.tables)) same_highest)
+      ∙ same_listed (find (is_highest (listed_number size other s) (length s.tables)) (range_with_len 0 (length s.tables))) refl

@@ -13,7 +13,21 @@ use Rattle.udf_volume_laws.proofs.Puts.{IsOff, AreWithin, off, off_both, look_bo
 use Rattle.udf_volume_laws.proofs.Within.{both_within}
 use Rattle.udf_volume_laws.proofs.Cut.{blocks_hold, fewer_blocks, same_from, from_length, from_both, cut_off, cut_within, cut_back}
 use Rattle.udf_volume_laws.proofs.TableCopy.{copy_length}
-use Rattle.udf_volume_laws.proofs.Prevailed.{area_at}
+use Rattle.udf_volume_laws.proofs.Prevailed.{area_at, IsPrevailing, whole_table}
+
+-- the listed tables lie in the image, apart from each other
+pub record AreListed (size blocks : ℕ) (s : SparingMap) : Type 0 where
+  pub inside : (at : ℕ) → IsIn at s.tables → at + blocks_for size s.bytes ≤ blocks
+  pub apart : (at other : ℕ) → IsIn at s.tables → IsIn other s.tables
+      → (other ≡ at) ⊎ ((other + blocks_for size s.bytes ≤ at) ⊎ (at + blocks_for size s.bytes ≤ other))
+
+-- what the prevailing table says lies in its area
+pub prevailing_long : (size : ℕ) (disk : ℕ → List ℕ) (s : SparingMap) (table : List ℕ) → 0 < size → (p : IsPrevailing size disk s table)
+    → ((n : ℕ) → p.at ≤ n → n < p.at + blocks_for size s.bytes → length (disk n) ≡ size) → table_end table ≤ length table
+unfolding table_area
+prevailing_long size disk s table some p full =
+    let all : length (bytes_from disk p.at (blocks_for size s.bytes)) ≡ blocks_for size s.bytes * size = from_length size disk p.at (blocks_for size s.bytes) full in
+    omega (arith, all, ap (λ (l : List ℕ). length l) p.is, blocks_hold size s.bytes some, (whole_table s.bytes p.at table p.whole).ends)
 
 -- what is cut does not depend on what stood there
 cut_same : (size at count : ℕ) (bytes : List ℕ) (n : ℕ) (a b : List ℕ) → at ≤ n → n < at + count

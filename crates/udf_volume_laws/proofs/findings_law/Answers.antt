@@ -1,3 +1,6 @@
+use Rattle.udf_volume_laws.proofs.Taken.{facts}
+use Rattle.udf_volume_laws.proofs.Spares.{tables_off}
+use Rattle.udf_volume_laws.proofs.TablesAfter.{all_agree}
 use Rattle.udf_volume_laws.proofs.TableEdits.{unwritten_area}
 use Rattle.udf_volume_laws.proofs.Cut.{cut_back}
 use Rattle.udf_volume_laws.proofs.Says.{same_entries}
