@@ -23,7 +23,9 @@ pub mod Led
 pub mod Pair
 pub mod Places
 pub mod Ascending
+pub mod Beside
 pub mod After
+pub mod Stays
 pub mod Law
 pub mod Frame
 pub mod Within

@@ -1,8 +1,8 @@
 -- Lists, tests and members.
 use Rattle.std.proofs.Common.{◌≡◌, ℕ, zero, suc, ◌+◌, ◌<◌, ◌≤◌, arith, refl, sym, ◌∙◌, ap, List, [], ◌∷◌, ◌++◌, map, Bool, true, false, cond, not, ◌&&◌, get_or, length, Option, Some, inl, inr, ◌⊎◌}
 use Rattle.std.specs.Prelude.{slice_get}
-use Rattle.std.specs.List.{list_all, filter, find, range_with_len}
-use Rattle.std.proofs.lemmas.Bool.{and_parts, and_from, cases_lt}
+use Rattle.std.specs.List.{list_all, list_any, filter, find, range_with_len}
+use Rattle.std.proofs.lemmas.Bool.{and_parts, and_from, or_cases, cases_lt}
 
 abbrev pub IsIn : {X : Type 0} → X → List X → Type 0
 IsIn n [] = ⊥
@@ -136,3 +136,10 @@ pub none_kept : {X : Type 0} (test : X → Bool) (xs : List X) → ((x : X) → 
 none_kept test [] h = refl
 none_kept test (x ∷ xs) h =
     ap (λ b. cond (not b) (x ∷ filter (λ y. not (test y)) xs) (filter (λ y. not (test y)) xs)) (h x (inl refl)) ∙ none_kept test xs (λ n i. h n (inr i))
+
+pub any_passes : {X : Type 0} (test : X → Bool) (xs : List X) → list_any test xs ≡ true → (x : X) × IsIn x xs × (test x ≡ true)
+any_passes test [] e = absurd (cc)
+any_passes {X = X} test (x ∷ xs) e = by_test (any_passes test xs) (or_cases (test x) (list_any test xs) e) where
+  by_test : (list_any test xs ≡ true → (y : X) × IsIn y xs × (test y ≡ true)) → (test x ≡ true) ⊎ (list_any test xs ≡ true) → (y : X) × IsIn y (x ∷ xs) × (test y ≡ true)
+  by_test rest (inl t) = (x, inl refl, t)
+  by_test rest (inr t) = let r = rest t in (r.0, inr r.1, r.2)

@@ -30,7 +30,7 @@ table_area_in size list s at is i =
     subst (λ (areas : List Area). IsIn (record { start = at; count = blocks_for size s.bytes }) areas) (sym (table_areas_are size list s is))
     (mapped_in (λ (n : ℕ). record { start = n; count = blocks_for size s.bytes }) s.tables at i)
 
-all_inside : (size blocks : ℕ) (anchor : Anchor) (list : List Descriptor) → are_lawful size blocks list (areas_of size anchor list) ≡ true
+pub all_inside : (size blocks : ℕ) (anchor : Anchor) (list : List Descriptor) → are_lawful size blocks list (areas_of size anchor list) ≡ true
     → (area : Area) → IsIn area (areas_of size anchor list) → area.start + area.count ≤ blocks
 unfolding are_lawful is_inside
 all_inside size blocks anchor list e area i =
