@@ -1,7 +1,7 @@
 -- What a lawful layout keeps apart.
-use Rattle.std.proofs.Common.{◌≡◌, ℕ, ◌+◌, ◌<◌, ◌≤◌, arith, refl, List, [], ◌∷◌, ◌++◌, Bool, true, false, not, ◌&&◌, ◌||◌, ap, ◌∙◌, eqb, leb, ltb, inl, inr, ◌⊎◌}
+use Rattle.std.proofs.Common.{◌≡◌, ℕ, ◌+◌, ◌<◌, ◌≤◌, arith, refl, sym, List, [], ◌∷◌, ◌++◌, Bool, true, false, not, ◌&&◌, ◌||◌, ap, ◌∙◌, eqb, leb, ltb, inl, inr, ◌⊎◌}
 use Rattle.std.specs.List.{list_all}
-use Rattle.std.proofs.lemmas.Bool.{and_parts, and_from, or_cases, leb-true, leb-false, le-leb, lt-ltb, ltb-true, ltb-false, eqb-true, not-true, and_cases}
+use Rattle.std.proofs.lemmas.Bool.{cases_Bool, and_parts, and_from, or_cases, leb-true, leb-false, le-leb, lt-ltb, ltb-true, ltb-false, eqb-true, not-true, and_cases}
 use Rattle.udf_volume_model.specs.Sequence.{Descriptor}
 use Rattle.udf_volume_model.specs.Anchor.{Anchor, blocks_of}
 use Rattle.udf_volume_model.specs.Areas.{Area, area_of, areas_of, integrity_areas, table_areas, covers, is_outside, partition_area}
@@ -79,6 +79,13 @@ not_both a b n e c = by_test (covers b n) refl where
   by_test : (t : Bool) → covers b n ≡ t → t ≡ false
   by_test false t = refl
   by_test true t = absurd (by_order (within_area a n c) (within_area b n t))
+
+-- what covers a sector of an area that leaves it out covers it not
+pub uncovered_by : (a b : Area) (n : ℕ) → (covers a n ≡ true → covers b n ≡ false) → covers b n ≡ true → covers a n ≡ false
+uncovered_by a b n h c = by_test (cases_Bool (covers a n)) where
+  by_test : (covers a n ≡ true) ⊎ (covers a n ≡ false) → covers a n ≡ false
+  by_test (inl t) = let f : true ≡ false = sym c ∙ h t in absurd (cc)
+  by_test (inr t) = t
 
 -- the areas behind some others are apart, and each of these from each of those
 pub tail_apart : (xs ys : List Area) → are_apart (xs ++ ys) ≡ true → are_apart ys ≡ true

@@ -26,6 +26,7 @@ pub mod Ascending
 pub mod Beside
 pub mod After
 pub mod Stays
+pub mod Spared
 pub mod Law
 pub mod Frame
 pub mod Within

@@ -1,7 +1,6 @@
 -- What no mend writes: the partition, the used packets, the kept descriptors, and what lies past the image's blocks.
 use Rattle.std.proofs.Common.{◌≡◌, ℕ, ◌+◌, ◌<◌, ◌≤◌, arith, refl, sym, ◌∙◌, ap, List, [], ◌++◌, length, Bool, true, false, cond, leb, ltb, inl, inr, ◌⊎◌}
 use Rattle.std.specs.List.{list_any}
-use Rattle.std.proofs.lemmas.Bool.{cases_Bool}
 use Rattle.udf_model.specs.Tag.{relocated}
 use Rattle.udf_volume_model.specs.Anchor.{blocks_of}
 use Rattle.udf_volume_model.specs.Kept.{KeptSequence, kept, other}
@@ -13,7 +12,7 @@ use Rattle.udf_volume_model.specs.AllRules.{layout_in}
 use Rattle.udf_volume_model.specs.Mended.{anchor_edits}
 use Rattle.udf_volume_laws.proofs.Puts.{IsOff, chosen, chosen_off}
 use Rattle.udf_volume_laws.proofs.Members.{IsIn, any_passes, in_front}
-use Rattle.udf_volume_laws.proofs.Apart.{IsBeside, covered, uncovered, within_area, apart_back, not_both, not_eligible, spread, further_areas, further_area, partition_further, table_further}
+use Rattle.udf_volume_laws.proofs.Apart.{IsBeside, covered, uncovered, within_area, not_both, uncovered_by, not_eligible, spread, further_areas, further_area, partition_further, table_further}
 use Rattle.udf_volume_laws.proofs.Ascending.{ascending_within}
 use Rattle.udf_volume_laws.proofs.Pair.{IsPair}
 use Rattle.udf_volume_laws.proofs.Taken.{IsOpened, Facts, facts, areas_in, packets_in, packet_taken, packet_apart}
@@ -38,13 +37,6 @@ module _ (size blocks : ℕ) (disk : ℕ → List ℕ) (volume : KeptSequence) (
       places
       (tables_off size blocks disk volume.list (omega (arith, given.large)) given.full (spares size blocks disk volume.anchor volume.list known.lawful known.table) n
       (λ table i. uncovered table n (tables table i)))
-
-  -- an area that covers a sector of another one which is apart from it
-  uncovered_by : (a b : Area) (n : ℕ) → ((covers a n ≡ true) → covers b n ≡ false) → covers b n ≡ true → covers a n ≡ false
-  uncovered_by a b n h c = by_test (cases_Bool (covers a n)) where
-    by_test : (covers a n ≡ true) ⊎ (covers a n ≡ false) → covers a n ≡ false
-    by_test (inl t) = let f : true ≡ false = sym c ∙ h t in absurd (cc)
-    by_test (inr t) = t
 
   pub partition_stays : (n : ℕ) → covers (partition_area volume.list) n ≡ true → after n ≡ disk n
   partition_stays n c =
