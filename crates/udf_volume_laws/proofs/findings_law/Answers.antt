@@ -1,3 +1,4 @@
+use Rattle.udf_volume_laws.proofs.Applied.{mended_rewrites}
 use Rattle.udf_volume_laws.proofs.Law.{mends}
 use Rattle.udf_volume_laws.proofs.Stays.{past_stays}
 use Rattle.udf_volume_laws.proofs.Taken.{facts}
