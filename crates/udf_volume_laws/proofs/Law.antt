@@ -14,11 +14,11 @@ use Rattle.udf_volume_model.specs.Mended.{edits}
 use Rattle.udf_volume_model.specs.Rules.{ascending_places, is_eligible, is_good, eligible, anchors_hold, sequences_hold}
 use Rattle.udf_volume_model.specs.SparingRule.{tables_hold}
 use Rattle.udf_volume_model.specs.AllRules.{layout_in}
-use Rattle.udf_volume_laws.proofs.Members.{IsIn, all_at, all_from, any_passes, kept_in, same_filter, same_all}
+use Rattle.udf_volume_laws.proofs.Members.{IsIn, all_from, any_passes, kept_in, same_filter, same_all}
 use Rattle.udf_volume_laws.proofs.Ascending.{IsHigh, places_high, to_ascending}
 use Rattle.udf_volume_laws.proofs.Places.{IsAnchor, good_from}
 use Rattle.udf_volume_laws.proofs.Led.{leads_none}
-use Rattle.udf_volume_laws.proofs.Taken.{IsOpened, Facts, facts, areas_in, packets_in, taken_in, outside_areas, packets_beside}
+use Rattle.udf_volume_laws.proofs.Taken.{IsOpened, Facts, facts, areas_in, packets_in, taken_in, outside_areas, passed_areas, packets_beside}
 use Rattle.udf_volume_laws.proofs.After.{reserve_agrees, outside_stays, anchor_there, place_leads as place_leads_of, leads_after as leads_after_of, outside_of as outside_by}
 use Rattle.udf_volume_laws.proofs.Spared.{table_stays, used_stays, layout_stays, tables_after}
 
@@ -78,13 +78,6 @@ module _ (size blocks : ℕ) (disk : ℕ → List ℕ) (volume : KeptSequence) (
       let parts = and_parts (is_passed size blocks disk (taken_in size disk volume) x) (list_all (is_passed size blocks disk (taken_in size disk volume)) xs) e in
       and_from _ _ (passed_stays holds x parts.0) (all_pass holds xs parts.1)
 
-  -- it is outside the areas too
-  areas_passed : (xs : List ℕ) → list_all (is_passed size blocks after (taken_in size disk volume)) xs ≡ true → list_all (is_passed size blocks after (areas_in size volume)) xs ≡ true
-  unfolding is_passed
-  areas_passed xs p = all_from (is_passed size blocks after (areas_in size volume)) xs (λ n i.
-      let parts = and_parts (is_outside (taken_in size disk volume) n) (is_none (anchor_in size blocks n (after n))) (all_at (is_passed size blocks after (taken_in size disk volume)) xs n p i) in
-      and_from _ _ (outside_areas size disk volume n parts.0) parts.1)
-
   none_there : (n : ℕ) → is_passed size blocks after (taken_in size disk volume) n ≡ true → led_from size blocks after n ≡ None
   unfolding is_passed
   none_there n e =
@@ -114,7 +107,7 @@ module _ (size blocks : ℕ) (disk : ℕ → List ℕ) (volume : KeptSequence) (
       let packets : are_packets blocks n (areas_in size volume) (packets_in size disk volume) ≡ true =
       packets_beside blocks volume.place n (areas_in size volume) (packets_in size disk volume) known.packets fewer in
       and_from _ _ known.profile
-      (and_from _ _ (and_from _ _ known.lawful (and_from _ _ (outside_areas size disk volume n e) (areas_passed (earlier n (places blocks)) p)))
+      (and_from _ _ (and_from _ _ known.lawful (and_from _ _ (outside_areas size disk volume n e) (passed_areas size blocks disk after volume (earlier n (places blocks)) p)))
       (and_from _ _ (table_stays size blocks disk volume given)
       (ap (λ t. are_packets blocks n (areas_in size volume) (packets_of t)) (used_stays size blocks disk volume given) ∙ packets)))
 

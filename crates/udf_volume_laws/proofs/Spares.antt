@@ -1,13 +1,13 @@
 -- The sparing tables of an opened volume, and the sectors that their edits leave.
-use Rattle.std.proofs.Common.{◌≡◌, ℕ, ◌+◌, ◌*◌, ◌<◌, ◌≤◌, arith, refl, sym, ◌∙◌, ap, subst, List, [], length, map, true, false, ◌&&◌, Option, Some, None, inl, inr, ◌⊎◌}
+use Rattle.std.proofs.Common.{◌≡◌, ℕ, ◌+◌, ◌*◌, ◌<◌, ◌≤◌, arith, refl, sym, ◌∙◌, ap, subst, List, [], length, map, true, false, ◌&&◌, ltb, Option, Some, None, inl, inr, ◌⊎◌}
 use Rattle.std.specs.Prelude.{is_some}
 use Rattle.std.specs.List.{list_all, flat_map}
-use Rattle.std.proofs.lemmas.Bool.{and_parts, leb-true}
+use Rattle.std.proofs.lemmas.Bool.{and_parts, leb-true, ltb-true}
 use Rattle.udf_volume_model.specs.Sequence.{Descriptor}
 use Rattle.udf_volume_model.specs.Anchor.{Anchor, blocks_for}
 use Rattle.udf_volume_model.specs.Stated.{sparing}
 use Rattle.udf_volume_model.specs.Maps.{SparingMap}
-use Rattle.udf_volume_model.specs.Areas.{Area, areas_of, table_areas}
+use Rattle.udf_volume_model.specs.Areas.{Area, areas_of, partition_area, table_areas}
 use Rattle.udf_volume_model.specs.Layout.{are_apart, is_inside, are_high, is_bitmap_lawful, are_lawful, has_table, has_table_by}
 use Rattle.udf_volume_model.specs.SparingTable.{table_end, prevailing_area}
 use Rattle.udf_volume_model.specs.SparingRule.{deviating, table_blocks, copies_by, copies_of, table_edits}
@@ -36,6 +36,17 @@ unfolding are_lawful is_inside
 all_inside size blocks anchor list e area i =
     leb-true _ _ (all_at (is_inside blocks) (areas_of size anchor list) area
     (and_parts (list_all (is_inside blocks) (areas_of size anchor list)) (are_apart (areas_of size anchor list) && (are_high size list && is_bitmap_lawful size list)) e).0 i)
+
+-- the tables start above block 128
+pub tables_high : (size blocks : ℕ) (anchor : Anchor) (list : List Descriptor) → are_lawful size blocks list (areas_of size anchor list) ≡ true
+    → (area : Area) → IsIn area (table_areas size list) → 128 < area.start
+unfolding are_lawful are_high
+tables_high size blocks anchor list e area i =
+    let one = and_parts (list_all (is_inside blocks) (areas_of size anchor list)) (are_apart (areas_of size anchor list) && (are_high size list && is_bitmap_lawful size list)) e in
+    let two = and_parts (are_apart (areas_of size anchor list)) (are_high size list && is_bitmap_lawful size list) one.1 in
+    let three = and_parts (are_high size list) (is_bitmap_lawful size list) two.1 in
+    let four = and_parts (ltb 128 (partition_area list).start) (list_all (λ a. ltb 128 a.start) (table_areas size list)) three.0 in
+    ltb-true _ _ (all_at (λ a. ltb 128 a.start) (table_areas size list) area four.1 i)
 
 pub spares : (size blocks : ℕ) (disk : ℕ → List ℕ) (anchor : Anchor) (list : List Descriptor) → are_lawful size blocks list (areas_of size anchor list) ≡ true
     → has_table size disk list ≡ true → Spares size blocks disk list

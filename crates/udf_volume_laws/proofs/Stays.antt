@@ -78,8 +78,11 @@ module _ (size blocks : ℕ) (disk : ℕ → List ℕ) (volume : KeptSequence) (
       (sequence_off size disk volume n (whole size blocks disk volume given).below known.pairing.other_limit (inr (omega (arith, known.pairing.other_room.within))))
       (by_rule (anchors_hold blocks (layout_in size disk volume) disk volume))
       (tables_off size blocks disk volume.list (omega (arith, given.large)) given.full (spares size blocks disk volume.anchor volume.list known.lawful known.table) n
-      (λ table i. inr (omega (arith, all_inside size blocks volume.anchor volume.list known.lawful table
-      (further_area size volume.anchor volume.list table (table_further size volume.list table i))))))
+      (λ table i. inr (omega (
+        arith,
+        all_inside size blocks volume.anchor volume.list known.lawful table
+            (further_area size volume.anchor volume.list table (table_further size volume.list table i)),
+      ))))
     where
       by_rule : (b : Bool) → IsOff n (cond b [] (chosen (λ place. relocated place (disk volume.place)) (bad_of disk volume (eligible blocks (layout_in size disk volume)))))
       by_rule true = tt

@@ -58,6 +58,14 @@ pub outside_areas : (size : ℕ) (disk : ℕ → List ℕ) (volume : KeptSequenc
 outside_areas size disk volume n e =
     outside_from (areas_in size volume) n (λ area i. outside_at (taken_in size disk volume) n area e (area_taken size disk volume area i))
 
+-- a place that is passed beside all that is taken is passed beside the areas
+pub passed_areas : (size blocks : ℕ) (disk other : ℕ → List ℕ) (volume : KeptSequence) (xs : List ℕ) → list_all (is_passed size blocks other (taken_in size disk volume)) xs ≡ true
+    → list_all (is_passed size blocks other (areas_in size volume)) xs ≡ true
+unfolding is_passed
+passed_areas size blocks disk other volume xs p = all_from (is_passed size blocks other (areas_in size volume)) xs (λ n i.
+    let parts = and_parts (is_outside (taken_in size disk volume) n) (is_none (anchor_in size blocks n (other n))) (all_at (is_passed size blocks other (taken_in size disk volume)) xs n p i) in
+    and_from _ _ (outside_areas size disk volume n parts.0) parts.1)
+
 outside_both : (size : ℕ) (disk : ℕ → List ℕ) (volume : KeptSequence) (n : ℕ) → is_outside (areas_in size volume) n ≡ true
     → ((packet : Area) → IsIn packet (packets_in size disk volume) → covers packet n ≡ false) → is_outside (taken_in size disk volume) n ≡ true
 unfolding taken layout_of
