@@ -2,16 +2,15 @@
 use Rattle.std.proofs.Common.{◌≡◌, ℕ, ◌+◌, ◌-◌, ◌*◌, ◌^◌, ◌<◌, ◌≤◌, arith, refl, sym, ◌∙◌, ap, subst, List, [], ◌++◌, take, drop, get_or, length, Bool, true, false, cond, ◌&&◌, leb, Option, Some, None, codes}
 use Rattle.std.specs.Str.{bytes_eq}
 use Rattle.std.proofs.lemmas.Bool.{and_parts, and_from, leb-true, le-leb, cases_Bool}
-use Rattle.std.proofs.lemmas.List.{get_or-take, get_or-drop, get_or_append_left, take_at, length-take-le, length-append}
-use Rattle.udf_model.specs.Bytes.{IsBytes}
+use Rattle.std.proofs.lemmas.List.{get_or-take, get_or-drop, get_or_append_left, take_at, take_all, length-take-le, length-drop, length-append}
+use Rattle.udf_model.specs.Crc.{crc_of}
 use Rattle.udf_model.specs.Tag.{is_whole, crc_length, identifier, location, id_at, is_id, relocated, retagged}
-use Rattle.udf_model.proofs.Parts.{take_is_bytes}
 use Rattle.udf_model.proofs.Written.{same_number}
 use Rattle.udf_model.proofs.Relocated.{relocated_length, relocated_body, relocated_identifier, relocated_location, relocated_whole, found_at}
-use Rattle.udf_model.proofs.Retagged.{retagged_length, retagged_body, retagged_identifier, retagged_location, retagged_whole}
+use Rattle.udf_model.proofs.Retagged.{retagged_length, retagged_body, retagged_identifier, retagged_location, whole_by_crc}
 use Rattle.udf_field.specs.FieldView.{entity_is}
 use Rattle.udf_volume_model.specs.SparingTable.{entry_count, table_end, is_table}
-use Rattle.udf_volume_model.specs.SparingRule.{table_content, agrees_with, is_coverable, table_copy}
+use Rattle.udf_volume_model.specs.SparingRule.{table_content, agrees_with, table_copy}
 use Rattle.udf_volume_laws.proofs.Same.{bytes_same}
 use Rattle.udf_volume_laws.proofs.Says.{same_end, same_name}
 use Rattle.udf_volume_laws.proofs.Fronts.{front_crc_length, front_location, front_identifier, front_whole, whole_front}
@@ -55,14 +54,15 @@ module _ (at : ℕ) (table : List ℕ) (long : table_end table ≤ length table)
   copy_location : at < 2 ^ 32 → location (table_copy at table) ≡ at
   copy_location fits = by_form (λ c. location c ≡ at) at table (λ e. relocated_location at front room fits) (λ e. retagged_location at (table_end table - 16) front room fits)
 
-  -- of bytes it is whole
-  pub copy_whole : IsBytes table → is_coverable table ≡ true → is_whole table ≡ true → is_whole (table_copy at table) ≡ true
-  unfolding is_coverable
-  copy_whole bytes coverable whole =
-      let covers : table_end table ≤ 16 + 65535 = leb-true _ _ coverable in
+  -- it is whole where the CRC of what the table says fits its field
+  pub copy_whole : crc_of (table_content table) < 2 ^ 16 → table_end table ≤ 16 + 65535 → is_whole table ≡ true → is_whole (table_copy at table) ≡ true
+  unfolding table_content
+  copy_whole small covers whole =
+      let all : take (table_end table - 16) (drop 16 front) ≡ drop 16 front =
+      take_all (table_end table - 16) (drop 16 front) (omega (arith, front_length, length-drop 16 front)) in
       by_form (λ c. is_whole c ≡ true) at table
       (λ e. relocated_whole at front room (front_whole (table_end table) table (omega arith) long (leb-true _ _ e) whole))
-      (λ e. retagged_whole at (table_end table - 16) front (take_is_bytes (table_end table) table bytes) (omega (arith, front_length)) (omega arith))
+      (λ e. whole_by_crc at (table_end table - 16) front (omega (arith, front_length)) (omega arith) (omega (arith, ap crc_of all)))
 
   module _ (rest : List ℕ) where
     abbrev placed : List ℕ

@@ -3,9 +3,8 @@ use Rattle.std.proofs.Common.{◌≡◌, ℕ, zero, suc, ◌+◌, ◌*◌, ◌^�
 use Rattle.std.specs.Prelude.{option_map}
 use Rattle.std.specs.Str.{bytes_eq}
 use Rattle.std.specs.List.{list_all, filter, flat_map}
-use Rattle.std.proofs.lemmas.Bool.{and_parts, and_from, cases_Bool, cases_eq}
-use Rattle.udf_model.specs.Bytes.{IsBytes}
-use Rattle.udf_model.proofs.Parts.{append_is_bytes}
+use Rattle.std.proofs.lemmas.Bool.{and_parts, and_from, cases_Bool, leb-true}
+use Rattle.udf_model.specs.Crc.{crc_of}
 use Rattle.udf_volume_model.specs.Anchor.{blocks_for}
 use Rattle.udf_volume_model.specs.Maps.{SparingMap}
 use Rattle.udf_volume_model.specs.Areas.{used_by, table_or_none}
@@ -26,11 +25,6 @@ pub data Fate (size : ℕ) (disk after : ℕ → List ℕ) (s : SparingMap) (tab
   Written : IsDeviating size disk s table at → (rest : List ℕ) → area_at size after s at ≡ table_copy at table ++ rest → Fate size disk after s table at
   Agreed : agrees_with s.bytes at (area_at size disk s at) table ≡ true → area_at size after s at ≡ area_at size disk s at → Fate size disk after s table at
   Uncovered : is_coverable table ≡ false → area_at size after s at ≡ area_at size disk s at → Fate size disk after s table at
-
-from_is_bytes : (disk : ℕ → List ℕ) (at count : ℕ) → ((n : ℕ) → IsBytes (disk n)) → IsBytes (bytes_from disk at count)
-unfolding bytes_from
-from_is_bytes disk at zero h = λ i. omega arith
-from_is_bytes disk at (suc count) h = append_is_bytes (disk at) (bytes_from disk (at + 1) count) (h at) (from_is_bytes disk (at + 1) count h)
 
 module _ (size blocks : ℕ) (disk after : ℕ → List ℕ) (s : SparingMap) (table : List ℕ) (some : 0 < size) (small : blocks < 2 ^ 32)
     (full : (n : ℕ) → n < blocks → length (disk n) ≡ size) (listed : AreListed size blocks s) (found : prevailing_area size disk s ≡ Some table)
@@ -148,15 +142,12 @@ module _ (size blocks : ℕ) (disk after : ℕ → List ℕ) (s : SparingMap) (t
       ∙ ap (λ l. record { packet = s.packet; pairs = used_pairs s.packet count l }) (same_entries kept.next table kept.content)
       ∙ sym (ap (λ o. table_or_none (option_map (used_of s.packet count) o)) found)
 
-  -- over bytes each table agrees afterwards
-  pub all_agree : ((n : ℕ) → IsBytes (disk n)) → tables_agree size after (Some s) ≡ true
-  unfolding agrees_with deviating is_coverable table_area
-  all_agree bytes =
+  -- where the CRC of what the table says fits its field, each table agrees afterwards
+  pub all_agree : (is_coverable table ≡ true → crc_of (table_content table) < 2 ^ 16) → tables_agree size after (Some s) ≡ true
+  unfolding agrees_with deviating is_coverable
+  all_agree small =
       ap (λ o. is_empty (deviating_by size after s o)) kept.found_next ∙ ap is_empty (none_left (cases_Bool (is_coverable kept.next)))
     where
-      table_is_bytes : IsBytes table
-      table_is_bytes = subst IsBytes (sym prevailing.is) (from_is_bytes disk prevailing.at (blocks_for size s.bytes) bytes)
-
       uncovered : is_coverable kept.next ≡ is_coverable table
       uncovered = ap (λ n. leb n (16 + 65535)) (same_end kept.next table kept.content)
 
@@ -166,7 +157,7 @@ module _ (size blocks : ℕ) (disk after : ℕ → List ℕ) (s : SparingMap) (t
       by_fate : (at : ℕ) → IsIn at s.tables → is_coverable kept.next ≡ true → Fate size disk after s table at → agrees_with s.bytes at (area_at size after s at) table ≡ true
       by_fate at i c (Written d rest e) =
           ap (λ l. agrees_with s.bytes at l table) e
-          ∙ placed_agrees at table long rest s.bytes prevailing.at whole (fits at i) (copy_whole at table long table_is_bytes d.coverable whole.tagged)
+          ∙ placed_agrees at table long rest s.bytes prevailing.at whole (fits at i) (copy_whole at table long (small d.coverable) (leb-true _ _ d.coverable) whole.tagged)
       by_fate at i c (Agreed a e) = ap (λ l. agrees_with s.bytes at l table) e ∙ a
       by_fate at i c (Uncovered u e) = let f : true ≡ false = sym c ∙ uncovered ∙ u in absurd (cc)
 
