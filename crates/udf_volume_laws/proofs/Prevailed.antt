@@ -1,9 +1,9 @@
 -- The sparing table that prevails among those that a map lists, by their sectors.
-use Rattle.std.proofs.Common.{◌≡◌, ℕ, zero, suc, ◌+◌, ◌<◌, ◌≤◌, arith, refl, sym, ◌∙◌, ap, subst, List, [], length, get_or, Bool, true, false, cond, ◌&&◌, leb, eqb, Option, Some, None, codes}
+use Rattle.std.proofs.Common.{◌≡◌, ℕ, zero, suc, ◌+◌, ◌<◌, ◌≤◌, arith, refl, sym, ◌∙◌, ap, List, [], length, get_or, Bool, true, false, cond, ◌&&◌, leb, eqb, Option, Some, None, codes}
 use Rattle.std.specs.Prelude.{option_map}
 use Rattle.std.specs.List.{list_all, find, range_with_len}
-use Rattle.std.proofs.lemmas.Bool.{and_parts, and_from, leb-true, le-leb, eqb-true}
-use Rattle.udf_model.specs.Tag.{is_whole, checksum_of, crc_length, covered, identifier, location, id_at, is_id}
+use Rattle.std.proofs.lemmas.Bool.{and_parts, leb-true, le-leb, eqb-true}
+use Rattle.udf_model.specs.Tag.{is_whole, crc_length, identifier, location, id_at, is_id}
 use Rattle.udf_field.specs.FieldView.{entity_is}
 use Rattle.udf_volume_model.specs.Anchor.{blocks_for}
 use Rattle.udf_volume_model.specs.Maps.{SparingMap}

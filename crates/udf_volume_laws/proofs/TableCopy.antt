@@ -1,19 +1,18 @@
 -- A copy of a sparing table says at its sector what the table says, whatever stands behind it.
-use Rattle.std.proofs.Common.{◌≡◌, ℕ, ◌+◌, ◌-◌, ◌*◌, ◌^◌, ◌<◌, ◌≤◌, arith, refl, sym, ◌∙◌, ap, subst, List, [], ◌++◌, take, drop, get_or, length, Bool, true, false, cond, ◌&&◌, leb, Option, Some, None, codes}
+use Rattle.std.proofs.Common.{◌≡◌, ℕ, ◌+◌, ◌-◌, ◌*◌, ◌^◌, ◌<◌, ◌≤◌, arith, refl, sym, ◌∙◌, ap, List, ◌++◌, take, drop, get_or, length, Bool, true, false, cond, leb, Some, codes}
 use Rattle.std.specs.Str.{bytes_eq}
-use Rattle.std.proofs.lemmas.Bool.{and_parts, and_from, leb-true, le-leb, cases_Bool}
+use Rattle.std.proofs.lemmas.Bool.{and_from, leb-true, le-leb}
 use Rattle.std.proofs.lemmas.List.{get_or-take, get_or-drop, get_or_append_left, take_at, take_all, length-take-le, length-drop, length-append}
 use Rattle.udf_model.specs.Crc.{crc_of}
 use Rattle.udf_model.specs.Tag.{is_whole, crc_length, identifier, location, id_at, is_id, relocated, retagged}
 use Rattle.udf_model.proofs.Written.{same_number}
 use Rattle.udf_model.proofs.Relocated.{relocated_length, relocated_body, relocated_identifier, relocated_location, relocated_whole, found_at}
 use Rattle.udf_model.proofs.Retagged.{retagged_length, retagged_body, retagged_identifier, retagged_location, whole_by_crc}
-use Rattle.udf_field.specs.FieldView.{entity_is}
-use Rattle.udf_volume_model.specs.SparingTable.{entry_count, table_end, is_table}
+use Rattle.udf_volume_model.specs.SparingTable.{table_end, is_table}
 use Rattle.udf_volume_model.specs.SparingRule.{table_content, agrees_with, table_copy}
 use Rattle.udf_volume_laws.proofs.Same.{bytes_same}
 use Rattle.udf_volume_laws.proofs.Says.{same_end, same_name}
-use Rattle.udf_volume_laws.proofs.Fronts.{front_crc_length, front_location, front_identifier, front_whole, whole_front}
+use Rattle.udf_volume_laws.proofs.Fronts.{front_location, front_identifier, front_whole, whole_front}
 use Rattle.udf_volume_laws.proofs.Prevailed.{IsWholeTable}
 
 -- what holds of both forms of a copy holds of it

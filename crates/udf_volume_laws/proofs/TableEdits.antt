@@ -1,5 +1,5 @@
 -- Where the edits of sparing tables lie, and what stands in the areas of tables after them.
-use Rattle.std.proofs.Common.{◌≡◌, ℕ, zero, suc, ◌+◌, ◌-◌, ◌*◌, ◌<◌, ◌≤◌, arith, refl, sym, ◌∙◌, ap, subst, List, [], ◌∷◌, ◌++◌, take, drop, length, length-append, length-drop, inl, inr, ◌⊎◌}
+use Rattle.std.proofs.Common.{◌≡◌, ℕ, zero, suc, ◌+◌, ◌-◌, ◌*◌, ◌<◌, ◌≤◌, arith, refl, sym, ◌∙◌, ap, List, [], ◌∷◌, ◌++◌, take, drop, length, length-append, length-drop, inl, inr, ◌⊎◌}
 use Rattle.std.specs.List.{flat_map}
 use Rattle.std.proofs.lemmas.Bool.{cases_eq}
 use Rattle.std.proofs.lemmas.List.{append_assoc}
@@ -7,7 +7,7 @@ use Rattle.udf_volume_model.specs.Anchor.{blocks_for}
 use Rattle.udf_volume_model.specs.Maps.{SparingMap}
 use Rattle.udf_volume_model.specs.Edits.{look}
 use Rattle.udf_volume_model.specs.SparingTable.{bytes_from, table_area, table_end}
-use Rattle.udf_volume_model.specs.SparingRule.{deviating, table_copy, blocks_cut, table_blocks}
+use Rattle.udf_volume_model.specs.SparingRule.{table_copy, blocks_cut, table_blocks}
 use Rattle.udf_volume_laws.proofs.Members.{IsIn}
 use Rattle.udf_volume_laws.proofs.Puts.{IsOff, AreWithin, off, off_both, look_both, look_here, look_past}
 use Rattle.udf_volume_laws.proofs.Within.{both_within}
