@@ -1,5 +1,5 @@
 -- A plan, applied, gives the image afterwards.
-use Rattle.std.proofs.Common.{◌≡◌, ℕ, zero, suc, ◌+◌, ◌/◌, ◌<◌, ◌≤◌, arith, sym, ◌∙◌, ap, List, ◌∷◌, length, Bool, true, false, not, inl, inr, ◌⊎◌}
+use Rattle.std.proofs.Common.{◌≡◌, ℕ, ◌/◌, ◌<◌, ◌≤◌, arith, sym, ◌∙◌, ap, List, length, Bool, true, false, not, inl, inr, ◌⊎◌}
 use mathlib.Core.Path.{fun_ext}
 use Rattle.std.specs.List.{filter, range_with_len}
 use Rattle.std.specs.Str.{bytes_eq}
@@ -9,22 +9,11 @@ use Rattle.udf_volume_model.specs.Edits.{look, put_blocks}
 use Rattle.udf_volume_model.specs.Plans.{IsRewrite}
 use Rattle.udf_volume_model.specs.Opened.{volume_mended, difference, plan_of}
 use Rattle.udf_volume_laws.proofs.Puts.{AreWithin, off, chosen, chosen_off, chosen_put, chosen_within, all_length, block_after}
-use Rattle.udf_volume_laws.proofs.Members.{IsIn, kept_in, in_kept}
+use Rattle.udf_volume_laws.proofs.Members.{in_range, range_in, kept_in, in_kept}
 use Rattle.udf_volume_laws.proofs.Within.{block_ends}
 use Rattle.udf_volume_laws.proofs.Final.{block_length}
-use Rattle.udf_volume_laws.proofs.Difference.{same_image, same_bytes, length_kept, past_kept}
-
-pub in_range : (count start n : ℕ) → start ≤ n → n < start + count → IsIn n (range_with_len start count)
-in_range zero start n l h = absurd (omega arith)
-in_range (suc count) start n l h = by_order (in_range count (start + 1) n) (cases_lt start n) where
-  by_order : (start + 1 ≤ n → n < start + 1 + count → IsIn n (range_with_len (start + 1) count)) → (start < n) ⊎ (n ≤ start) → IsIn n (start ∷ range_with_len (start + 1) count)
-  by_order rest (inl k) = inr (rest (omega arith) (omega arith))
-  by_order rest (inr k) = inl (let e : n ≡ start = omega arith in e)
-
-pub range_in : (count start n : ℕ) → IsIn n (range_with_len start count) → (start ≤ n) × (n < start + count)
-range_in zero start n i = absurd i
-range_in (suc count) start n (inl e) = (omega arith, omega arith)
-range_in (suc count) start n (inr i) = let r = range_in count (start + 1) n i in (omega (arith, r.0), omega (arith, r.1))
+use Rattle.udf_volume_laws.proofs.Difference.{same_image, length_kept, past_kept}
+use Rattle.udf_volume_laws.proofs.Same.{same_bytes}
 
 module _ (size : ℕ) (image after : List ℕ) (some : 0 < size) (long : length after ≡ length image) where
   abbrev differs : ℕ → Bool

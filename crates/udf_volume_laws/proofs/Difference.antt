@@ -1,22 +1,24 @@
 -- The difference of an image and the mended one.
 use Rattle.std.proofs.Common.{◌≡◌, ℕ, zero, suc, ◌+◌, ◌*◌, ◌/◌, ◌%◌, ◌<◌, ◌≤◌, arith, refl, sym, ◌∙◌, ap, List, [], ◌∷◌, length, drop, get_or, Bool, true, false, cond, not, Some, inl, inr, ◌⊎◌}
 use mathlib.Core.Path.{fun_ext}
-use Rattle.std.specs.List.{filter, range_with_len}
+use Rattle.std.specs.List.{filter, list_any, range_with_len}
 use Rattle.std.specs.Str.{bytes_eq}
 use Rattle.std.proofs.lemmas.Bool.{cases_Bool, cases_lt}
 use Rattle.std.proofs.lemmas.List.{get_or-take, get_or-drop, ext_get_or}
 use Rattle.std.proofs.lemmas.Nat.{div-add-mod'}
-use Rattle.std.proofs.lemmas.Slice.Eq.{bytes_eq-Decides}
 use Rattle.udf_model.specs.Image.{block_of, blocks_in}
 use Rattle.udf_volume_model.specs.Kept.{KeptSequence, kept_sequence_of}
-use Rattle.udf_volume_model.specs.Areas.{partition_area, covers}
+use Rattle.udf_volume_model.specs.Areas.{partition_area, covers, packets_of, layout_of}
+use Rattle.udf_volume_model.specs.AllRules.{layout_in}
 use Rattle.udf_volume_model.specs.Edits.{look}
 use Rattle.udf_volume_model.specs.Mended.{edits}
 use Rattle.udf_volume_model.specs.Opened.{is_opened, volume_mended, is_volume_unbroken, difference, is_sealed}
-use Rattle.udf_volume_laws.proofs.After.{IsOpened, partition_stays, sealed_stays, past_stays}
+use Rattle.udf_volume_laws.proofs.Taken.{IsOpened}
+use Rattle.udf_volume_laws.proofs.Stays.{partition_stays, packets_stay, sealed_stays, past_stays}
 use Rattle.udf_volume_laws.proofs.Final.{opened_parts, held_of, put_disk, mended_is, mended_image}
 use Rattle.udf_volume_laws.proofs.Twice.{unopened, stays}
-use Rattle.udf_volume_laws.proofs.Same.{bytes_same}
+use Rattle.udf_volume_laws.proofs.Same.{bytes_same, same_bytes}
+use Rattle.udf_volume_laws.proofs.Members.{none_kept}
 
 -- a byte is that of its block
 byte_of : (size : ℕ) (image : List ℕ) (i : ℕ) → 0 < size → get_or (block_of size image (i / size)) (i % size) 0 ≡ get_or image i 0
@@ -32,9 +34,6 @@ byte_of size image i some =
 pub same_image : (size : ℕ) (image other : List ℕ) → 0 < size → length image ≡ length other → block_of size image ≡ block_of size other → image ≡ other
 same_image size image other some long same =
     ext_get_or 0 image other long (λ i l. sym (byte_of size image i some) ∙ ap (λ f. get_or (f (i / size)) (i % size) 0) same ∙ byte_of size other i some)
-
-pub same_bytes : (xs ys : List ℕ) → bytes_eq xs ys ≡ true → xs ≡ ys
-same_bytes xs ys e = (bytes_eq-Decides xs ys).0 e
 
 none_left : (test : ℕ → Bool) (count start n : ℕ) → filter (λ m. not (test m)) (range_with_len start count) ≡ [] → start ≤ n → n < start + count → test n ≡ true
 none_left test zero start n e l h = absurd (omega arith)
@@ -68,6 +67,10 @@ module _ (size : ℕ) (image : List ℕ) (volume : KeptSequence) (large : 512 �
   pub partition_kept : (n : ℕ) → covers (partition_area volume.list) n ≡ true → block_of size (volume_mended size image) n ≡ block_of size image n
   partition_kept n c = mended_block size image volume n large a is ∙ partition_stays size (blocks_in size image) (block_of size image) volume held n c
 
+  pub packets_kept : (n : ℕ) → list_any (λ area. covers area n) (packets_of (layout_in size (block_of size image) volume).table) ≡ true → block_of size (volume_mended size image) n ≡ block_of size image n
+  unfolding layout_of
+  packets_kept n c = mended_block size image volume n large a is ∙ packets_stay size (blocks_in size image) (block_of size image) volume held n c
+
   pub sealed_kept : (n : ℕ) → is_sealed volume n ≡ true → block_of size (volume_mended size image) n ≡ block_of size image n
   sealed_kept n c = mended_block size image volume n large a is ∙ sealed_stays size (blocks_in size image) (block_of size image) volume held n c
 
@@ -97,15 +100,11 @@ no_difference size image large a none =
       by_order n (inl below) = sym (no_difference_block size image (volume_mended size image) n none below)
       by_order n (inr past) = past_kept size image n large past
 
-none_differ : (test : ℕ → Bool) (xs : List ℕ) → ((n : ℕ) → test n ≡ true) → filter (λ m. not (test m)) xs ≡ []
-none_differ test [] h = refl
-none_differ test (x ∷ xs) h = ap (λ b. cond (not b) (x ∷ filter (λ m. not (test m)) xs) (filter (λ m. not (test m)) xs)) (h x) ∙ none_differ test xs h
-
 pub no_broken_rule : (size : ℕ) (image : List ℕ) → is_volume_unbroken size image ≡ true → difference size image (volume_mended size image) ≡ []
 unfolding difference
 no_broken_rule size image e =
-    none_differ (λ n. bytes_eq (block_of size image n) (block_of size (volume_mended size image) n)) (range_with_len 0 (blocks_in size image))
-    (λ n. ap (λ m. bytes_eq (block_of size image n) (block_of size m n)) (stays size image e) ∙ bytes_same (block_of size image n))
+    none_kept (λ n. bytes_eq (block_of size image n) (block_of size (volume_mended size image) n)) (range_with_len 0 (blocks_in size image))
+    (λ n i. ap (λ m. bytes_eq (block_of size image n) (block_of size m n)) (stays size image e) ∙ bytes_same (block_of size image n))
 
 some_left : (xs : List ℕ) → (xs ≡ [] → ⊥) → 1 ≤ length xs
 some_left [] h = absurd (h refl)

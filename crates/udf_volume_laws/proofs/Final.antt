@@ -1,13 +1,14 @@
 -- The laws over images.
-use Rattle.std.proofs.Common.{◌≡◌, ℕ, ◌+◌, ◌*◌, ◌/◌, ◌^◌, ◌<◌, ◌≤◌, arith, refl, sym, ◌∙◌, ap, subst, List, [], length, drop, Bool, true, false, cond, ltb, Option, Some, None}
+use Rattle.std.proofs.Common.{◌≡◌, ℕ, ◌+◌, ◌*◌, ◌/◌, ◌^◌, ◌<◌, ◌≤◌, arith, refl, sym, ◌∙◌, ap, subst, List, [], ◌++◌, length, drop, Bool, true, false, cond, ltb, Option, Some, None}
 use mathlib.Core.Path.{fun_ext}
 use Rattle.std.proofs.lemmas.Bool.{ltb-true, lt-ltb, and_parts, and_from}
 use Rattle.std.proofs.lemmas.List.{length-take-le, length-drop}
 use Rattle.udf_model.specs.Tag.{relocated}
 use Rattle.udf_model.specs.Image.{block_of, blocks_in}
 use Rattle.udf_volume_model.specs.Kept.{KeptSequence, kept, other, kept_sequence_of, limit_of}
-use Rattle.udf_volume_model.specs.Areas.{areas_of}
-use Rattle.udf_volume_model.specs.Rules.{eligible, bad_of, anchors_hold, sequences_hold, rules_hold}
+use Rattle.udf_volume_model.specs.Rules.{eligible, bad_of, anchors_hold, sequences_hold}
+use Rattle.udf_volume_model.specs.SparingRule.{table_edits}
+use Rattle.udf_volume_model.specs.AllRules.{layout_in, rules_hold}
 use Rattle.udf_volume_model.specs.Edits.{look, put_blocks}
 use Rattle.udf_volume_model.specs.Mended.{logical_block, copies, sequence_edits, anchor_edits, edits}
 use Rattle.udf_volume_model.specs.Opened.{is_opened_by, is_opened, mended_by, volume_mended, is_volume_unbroken_by, is_volume_unbroken}
@@ -17,7 +18,10 @@ use Rattle.udf_volume_laws.proofs.Ascending.{places_within, ascending_within}
 use Rattle.udf_volume_laws.proofs.Puts.{AreWithin, chosen, chosen_within, all_length, block_after}
 use Rattle.udf_volume_laws.proofs.Within.{block_ends, both_within, copies_within}
 use Rattle.udf_volume_laws.proofs.Led.{IsSequence}
-use Rattle.udf_volume_laws.proofs.After.{IsOpened, Facts, facts, whole, bad_place}
+use Rattle.udf_volume_laws.proofs.Taken.{IsOpened, Facts, facts}
+use Rattle.udf_volume_laws.proofs.Spares.{spares, tables_within}
+use Rattle.udf_volume_laws.proofs.Beside.{bad_parts}
+use Rattle.udf_volume_laws.proofs.After.{whole}
 use Rattle.udf_volume_laws.proofs.Law.{IsMended, StandsEarlier, mends, volume_after}
 
 pub block_length : (size : ℕ) (image : List ℕ) (n : ℕ) → n < blocks_in size image → length (block_of size image n) ≡ size
@@ -84,21 +88,30 @@ module _ (size : ℕ) (image : List ℕ) (volume : KeptSequence)
   kept_length : length (block_of size image volume.place) ≡ size
   kept_length = held.full volume.place (places_within (blocks_in size image) volume.place known.member)
 
-  anchors_fit : AreWithin size (length image) (anchor_edits size (blocks_in size image) (block_of size image) volume)
+  anchors_fit : AreWithin size (length image) (anchor_edits (blocks_in size image) (layout_in size (block_of size image) volume) (block_of size image) volume)
   unfolding anchor_edits
-  anchors_fit = by_rule (anchors_hold size (blocks_in size image) (block_of size image) volume) where
-    by_rule : (b : Bool) → AreWithin size (length image) (cond b [] (chosen (λ place. relocated place (block_of size image volume.place)) (bad_of (block_of size image) volume (eligible size (blocks_in size image) volume))))
+  anchors_fit = by_rule (anchors_hold (blocks_in size image) (layout_in size (block_of size image) volume) (block_of size image) volume) where
+    by_rule : (b : Bool) → AreWithin size (length image) (cond b [] (chosen (λ place. relocated place (block_of size image volume.place)) (bad_of (block_of size image) volume (eligible (blocks_in size image) (layout_in size (block_of size image) volume)))))
     by_rule true = tt
     by_rule false =
-        chosen_within size (length image) (λ place. relocated place (block_of size image volume.place)) (bad_of (block_of size image) volume (eligible size (blocks_in size image) volume))
+        chosen_within size (length image) (λ place. relocated place (block_of size image volume.place)) (bad_of (block_of size image) volume (eligible (blocks_in size image) (layout_in size (block_of size image) volume)))
         (λ n i. (
           relocated_length n (block_of size image volume.place) (omega (arith, kept_length, held.large)) ∙ kept_length,
-          block_ends size (length image) n (ascending_within (blocks_in size image) n (bad_place size (blocks_in size image) (block_of size image) volume n i)),
+          block_ends size (length image) n (ascending_within (blocks_in size image) n (bad_parts size (blocks_in size image) (block_of size image) volume n i).place),
         ))
+
+  tables_fit : AreWithin size (length image) (table_edits size (block_of size image) volume.list)
+  tables_fit =
+      tables_within size (blocks_in size image) (block_of size image) volume.list (omega (arith, held.large)) held.full (length image) (block_ends size (length image))
+      (spares size (blocks_in size image) (block_of size image) volume.anchor volume.list known.lawful known.table)
 
   pub edits_within : AreWithin size (length image) (edits size (blocks_in size image) (block_of size image) volume)
   unfolding edits
-  edits_within = both_within size (length image) _ _ sequence_within anchors_fit
+  edits_within =
+      both_within size (length image) (sequence_edits size (block_of size image) volume)
+      (anchor_edits (blocks_in size image) (layout_in size (block_of size image) volume) (block_of size image) volume ++ table_edits size (block_of size image) volume.list) sequence_within
+      (both_within size (length image) (anchor_edits (blocks_in size image) (layout_in size (block_of size image) volume) (block_of size image) volume)
+      (table_edits size (block_of size image) volume.list) anchors_fit tables_fit)
 
   abbrev pub put : List ℕ
   put = put_blocks size (edits size (blocks_in size image) (block_of size image) volume) image
@@ -115,14 +128,14 @@ module _ (size : ℕ) (image : List ℕ) (volume : KeptSequence)
   pub put_count : blocks_in size put ≡ blocks_in size image
   put_count = ap (λ n. n / size) put_long
 
-  pub law : (place : ℕ) × IsMended size (blocks_in size put) volume
+  pub law : (place : ℕ) × IsMended size (blocks_in size put) (block_of size image) volume
       (volume_after size (blocks_in size image) (block_of size image) volume held place) (block_of size put)
   law =
       let m = mends size (blocks_in size image) (block_of size image) volume held in
       let after : KeptSequence = volume_after size (blocks_in size image) (block_of size image) volume held m.0 in (
         m.0,
-        subst (λ (disk : ℕ → List ℕ). IsMended size (blocks_in size put) volume after disk) (sym put_disk)
-            (subst (λ (count : ℕ). IsMended size count volume after put_after) (sym put_count) m.1),
+        subst (λ (disk : ℕ → List ℕ). IsMended size (blocks_in size put) (block_of size image) volume after disk) (sym put_disk)
+            (subst (λ (count : ℕ). IsMended size count (block_of size image) volume after put_after) (sym put_count) m.1),
       )
 
 -- what the law says of images
@@ -134,16 +147,16 @@ pub record IsMendedImage (size : ℕ) (image after : List ℕ) : Type 0 where
   pub after_is : KeptSequence
   pub before_volume : kept_sequence_of size image ≡ Some before_is
   pub after_volume : kept_sequence_of size after ≡ Some after_is
-  pub same : IsSame size (blocks_in size image) before_is after_is
+  pub same : IsSame size (blocks_in size image) (block_of size image) (block_of size after) before_is after_is
 
 finish : (size : ℕ) (image : List ℕ) (before : KeptSequence) (after : List ℕ) (next : KeptSequence) → kept_sequence_of size image ≡ Some before → length after ≡ length image → blocks_in size after < 2 ^ 32
     → blocks_in size after ≡ blocks_in size image
-    → IsMended size (blocks_in size after) before next (block_of size after) → IsMendedImage size image after
+    → IsMended size (blocks_in size after) (block_of size image) before next (block_of size after) → IsMendedImage size image after
 unfolding kept_sequence_of is_opened is_volume_unbroken rules_hold
 finish size image before after next is long few count m = record {
   length_stays = long;
   opened = and_from _ _ (lt-ltb _ _ few) (ap (is_opened_by size (blocks_in size after) (block_of size after)) m.is ∙ m.opened);
-  rules = ap (is_volume_unbroken_by size after) m.is ∙ and_from _ _ m.anchors m.sequences;
+  rules = ap (is_volume_unbroken_by size after) m.is ∙ and_from _ _ m.anchors (and_from _ _ m.sequences m.tables);
   before_is = before;
   after_is = next;
   before_volume = is;
@@ -151,7 +164,7 @@ finish size image before after next is long few count m = record {
   same = record {
     anchor = m.same_anchor;
     list = m.same_list;
-    areas = ap (λ anchor. areas_of size anchor next.list) m.same_anchor ∙ ap (areas_of size before.anchor) m.same_list;
+    layout = m.same_layout;
     place = subst (λ (blocks : ℕ). StandsEarlier blocks before.place next.place) count m.place;
     which = m.which;
   };

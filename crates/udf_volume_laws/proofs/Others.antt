@@ -1,57 +1,73 @@
 -- Images that agree where a volume is read from.
-use Rattle.std.proofs.Common.{◌≡◌, ℕ, ◌+◌, ◌/◌, ◌<◌, ◌≤◌, arith, sym, ◌∙◌, ap, subst, List, [], ◌∷◌, length, true, false, not, ◌&&◌, eqb, ltb, Some, inl, inr}
+use Rattle.std.proofs.Common.{◌≡◌, ℕ, ◌/◌, ◌≤◌, arith, sym, ◌∙◌, ap, subst, List, [], ◌∷◌, length, Bool, true, false, not, ◌&&◌, eqb, ltb, Some, inl, inr}
 use Rattle.std.specs.List.{list_all, list_any}
-use Rattle.std.proofs.lemmas.Bool.{and_parts, and_from, or_left, or_right, eqb-true, eq-eqb, le-leb, lt-ltb, ltb-true, not-true}
+use Rattle.std.proofs.lemmas.Bool.{and_parts, and_from, or_left, or_right, eqb-true, eq-eqb, lt-ltb, ltb-true, not-true}
 use Rattle.udf_model.specs.Image.{block_of, blocks_in}
 use Rattle.udf_volume_model.specs.Anchor.{places}
 use Rattle.udf_volume_model.specs.Kept.{KeptSequence, kept_sequence_of}
-use Rattle.udf_volume_model.specs.Areas.{Area, area_of, covers}
-use Rattle.udf_volume_model.specs.Rules.{anchors_hold, sequences_hold, rules_hold}
+use Rattle.udf_volume_model.specs.Areas.{Area, area_of, table_areas, covers}
+use Rattle.udf_volume_model.specs.Rules.{anchors_hold, sequences_hold}
+use Rattle.udf_volume_model.specs.SparingRule.{tables_hold}
+use Rattle.udf_volume_model.specs.AllRules.{layout_in, rules_hold}
 use Rattle.udf_volume_model.specs.Edits.{look, put_blocks, are_edits, is_off}
 use Rattle.udf_volume_model.specs.Opened.{is_opened_by, is_opened, is_volume_unbroken_by, is_volume_unbroken}
 use Rattle.udf_volume_model.specs.Same.{is_read, IsUnmoved}
 use Rattle.udf_volume_laws.proofs.Members.{IsIn}
 use Rattle.udf_volume_laws.proofs.Puts.{AreWithin, IsOff, off, all_length, block_after}
 use Rattle.udf_volume_laws.proofs.Within.{block_ends}
-use Rattle.udf_volume_laws.proofs.After.{IsOpened}
-use Rattle.udf_volume_laws.proofs.Frame.{AgreeOn, frame, same_anchors, same_sequences}
+use Rattle.udf_volume_laws.proofs.Apart.{covered}
+use Rattle.udf_volume_laws.proofs.Taken.{IsOpened}
+use Rattle.udf_volume_laws.proofs.Frame.{AgreeOn, frame, same_anchors, same_sequences, same_tables}
 use Rattle.udf_volume_laws.proofs.Final.{held_of, block_length}
 
 made : (size : ℕ) (image other : List ℕ) (volume : KeptSequence) → is_opened size image ≡ true → kept_sequence_of size image ≡ Some volume
     → IsOpened size (blocks_in size other) (block_of size other) volume
-    → anchors_hold size (blocks_in size image) (block_of size image) volume ≡ anchors_hold size (blocks_in size other) (block_of size other) volume
-    → sequences_hold size (block_of size image) volume ≡ sequences_hold size (block_of size other) volume → IsUnmoved size image other
-unfolding kept_sequence_of is_opened is_volume_unbroken rules_hold
-made size image other volume opened is a second third = record {
+    → rules_hold size (blocks_in size image) (block_of size image) volume ≡ rules_hold size (blocks_in size other) (block_of size other) volume → IsUnmoved size image other
+unfolding kept_sequence_of is_opened is_volume_unbroken
+made size image other volume opened is a same = record {
   volume = a.is ∙ sym is;
   opened = and_from _ _ (lt-ltb _ _ a.small) (ap (is_opened_by size (blocks_in size other) (block_of size other)) a.is ∙ a.opened) ∙ sym opened;
-  unbroken =
-      ap (is_volume_unbroken_by size other) a.is
-      ∙ ap (λ b. b && sequences_hold size (block_of size other) volume) (sym second)
-      ∙ ap (λ b. anchors_hold size (blocks_in size image) (block_of size image) volume && b) (sym third)
-      ∙ ap (is_volume_unbroken_by size image) (sym is);
+  unbroken = ap (is_volume_unbroken_by size other) a.is ∙ sym same ∙ ap (is_volume_unbroken_by size image) (sym is);
 }
 
-covered : (area : Area) (n : ℕ) → area.start ≤ n → n < area.start + area.count → covers area n ≡ true
-unfolding covers
-covered area n l h = and_from _ _ (le-leb _ _ l) (lt-ltb _ _ h)
+same_rules : (size blocks : ℕ) (disk other : ℕ → List ℕ) (volume : KeptSequence) → IsOpened size blocks disk volume → AgreeOn size blocks disk other volume
+    → rules_hold size blocks disk volume ≡ rules_hold size blocks other volume
+unfolding rules_hold
+same_rules size blocks disk other volume held agree =
+    ap (λ b. b && (sequences_hold size disk volume && tables_hold size disk volume.list)) (same_anchors size blocks disk other volume held agree)
+    ∙ ap (λ b. anchors_hold blocks (layout_in size other volume) other volume && (b && tables_hold size disk volume.list)) (same_sequences size blocks disk other volume held agree)
+    ∙ ap (λ b. anchors_hold blocks (layout_in size other volume) other volume && (sequences_hold size other volume && b)) (same_tables size blocks disk other volume held agree)
 
 named : (n : ℕ) (xs : List ℕ) → IsIn n xs → list_any (λ place. eqb place n) xs ≡ true
 named n [] i = absurd i
 named n (x ∷ xs) (inl e) = or_left _ _ (eq-eqb _ _ (sym e))
 named n (x ∷ xs) (inr i) = or_right _ _ (named n xs i)
 
-agreed : (size blocks : ℕ) (disk other : ℕ → List ℕ) (volume : KeptSequence) → ((n : ℕ) → is_read size blocks volume n ≡ true → disk n ≡ other n) → AgreeOn size blocks disk other volume
+some_covers : (n : ℕ) (areas : List Area) (area : Area) → IsIn area areas → covers area n ≡ true → list_any (λ a. covers a n) areas ≡ true
+some_covers n [] area i c = absurd i
+some_covers n (first ∷ areas) area (inl e) c = or_left _ _ (ap (λ a. covers a n) (sym e) ∙ c)
+some_covers n (first ∷ areas) area (inr i) c = or_right _ _ (some_covers n areas area i c)
+
+agreed : (size blocks : ℕ) (disk other : ℕ → List ℕ) (volume : KeptSequence) → ((n : ℕ) → is_read size blocks disk volume n ≡ true → disk n ≡ other n) → AgreeOn size blocks disk other volume
 unfolding is_read
 agreed size blocks disk other volume h = record {
-  main = λ n l k. h n (or_left _ _ (covered (area_of size volume.anchor.main) n l k));
-  reserve = λ n l k. h n (or_right _ _ (or_left _ _ (covered (area_of size volume.anchor.reserve) n l k)));
-  at_places = λ n i e. h n (or_right _ _ (or_right _ _ (and_from _ _ (named n (places blocks) i) e)));
-}
+  main = λ n l k. h n (or_left (main n) _ (covered (area_of size volume.anchor.main) n l k));
+  reserve = λ n l k. h n (or_right (main n) _ (or_left (reserve n) _ (covered (area_of size volume.anchor.reserve) n l k)));
+  tables = λ area n i c. h n (or_right (main n) _ (or_right (reserve n) _ (or_left (tables n) _ (some_covers n (table_areas size volume.list) area i c))));
+  at_places = λ n i e. h n (or_right (main n) _ (or_right (reserve n) _ (or_right (tables n) _ (and_from _ _ (named n (places blocks) i) e))));
+} where
+  main : ℕ → Bool
+  main n = covers (area_of size volume.anchor.main) n
+
+  reserve : ℕ → Bool
+  reserve n = covers (area_of size volume.anchor.reserve) n
+
+  tables : ℕ → Bool
+  tables n = list_any (λ area. covers area n) (table_areas size volume.list)
 
 pub unmoved : (size : ℕ) (image other : List ℕ) (volume : KeptSequence) → 512 ≤ size → is_opened size image ≡ true → kept_sequence_of size image ≡ Some volume
     → length other ≡ length image
-    → ((n : ℕ) → is_read size (blocks_in size image) volume n ≡ true → block_of size other n ≡ block_of size image n) → IsUnmoved size image other
+    → ((n : ℕ) → is_read size (blocks_in size image) (block_of size image) volume n ≡ true → block_of size other n ≡ block_of size image n) → IsUnmoved size image other
 unmoved size image other volume large a is long same =
     let held = held_of size image volume large a is in
     let agree = agreed size (blocks_in size image) (block_of size image) (block_of size other) volume (λ n e. sym (same n e)) in
@@ -60,9 +76,8 @@ unmoved size image other volume large a is long same =
     (λ n l. block_length size other n (omega (arith, count))) in
     made size image other volume a is
     (subst (λ (n : ℕ). IsOpened size n (block_of size other) volume) (sym count) next)
-    (same_anchors size (blocks_in size image) (block_of size image) (block_of size other) volume held agree
-    ∙ ap (λ n. anchors_hold size n (block_of size other) volume) (sym count))
-    (same_sequences size (blocks_in size image) (block_of size image) (block_of size other) volume held agree)
+    (same_rules size (blocks_in size image) (block_of size image) (block_of size other) volume held agree
+    ∙ ap (λ n. rules_hold size n (block_of size other) volume) (sym count))
 
 -- edits by their tests
 within : (size : ℕ) (image : List ℕ) (edits : List (ℕ × List ℕ)) → are_edits size (blocks_in size image) edits ≡ true → AreWithin size (length image) edits
@@ -91,7 +106,7 @@ pub look_off : (n : ℕ) (edits : List (ℕ × List ℕ)) (block : List ℕ) →
 look_off n edits block e = off n edits block (nowhere n edits e)
 
 pub elsewhere : (size : ℕ) (image : List ℕ) (volume : KeptSequence) (edits : List (ℕ × List ℕ)) → 512 ≤ size → is_opened size image ≡ true → kept_sequence_of size image ≡ Some volume
-    → are_edits size (blocks_in size image) edits ≡ true → ((n : ℕ) → is_read size (blocks_in size image) volume n ≡ true → is_off n edits ≡ true)
+    → are_edits size (blocks_in size image) edits ≡ true → ((n : ℕ) → is_read size (blocks_in size image) (block_of size image) volume n ≡ true → is_off n edits ≡ true)
     → IsUnmoved size image (put_blocks size edits image)
 elsewhere size image volume edits large a is fit apart =
     unmoved size image (put_blocks size edits image) volume large a is (put_length size image edits fit)

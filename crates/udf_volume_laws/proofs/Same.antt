@@ -12,6 +12,9 @@ use Rattle.udf_volume_model.specs.Rules.{same_descriptor, same_for, same_prevail
 pub bytes_same : (xs : List ℕ) → bytes_eq xs xs ≡ true
 bytes_same xs = (bytes_eq-Decides xs xs).1 refl
 
+pub same_bytes : (xs ys : List ℕ) → bytes_eq xs ys ≡ true → xs ≡ ys
+same_bytes xs ys e = (bytes_eq-Decides xs ys).0 e
+
 descriptor_same : (o : Option Descriptor) → same_descriptor o o ≡ true
 descriptor_same None = refl
 descriptor_same (Some descriptor) = and_from _ _ (eq-eqb descriptor.id descriptor.id refl) (bytes_same descriptor.body)

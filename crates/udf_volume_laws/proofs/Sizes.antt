@@ -1,5 +1,5 @@
 -- The block size that is found in a mended image.
-use Rattle.std.proofs.Common.{◌≡◌, ◌==◌, ◌-◌, ne_eqb, ◌⊎◌, inl, inr, ◌≤◌, ◌<◌, ◌+◌, ◌*◌, ◌/◌, ◌^◌, ℕ, zero, suc, arith, refl, sym, ◌∙◌, ap, subst, List, [], ◌∷◌, length, take, drop, Bool, true, false, cond, ◌&&◌, nat_lt, Option, Some, None}
+use Rattle.std.proofs.Common.{◌≡◌, ◌==◌, ◌-◌, ne_eqb, ◌⊎◌, inl, inr, ◌≤◌, ◌<◌, ◌+◌, ◌*◌, ◌/◌, ◌^◌, ℕ, zero, suc, arith, refl, sym, ◌∙◌, ap, subst, List, [], ◌∷◌, ◌++◌, length, take, drop, Bool, true, false, cond, ◌&&◌, nat_lt, Option, Some, None}
 use Rattle.std.specs.List.{list_all}
 use Rattle.std.proofs.lemmas.Bool.{le-ltb, lt-leb, and_parts, and_from, cases_Bool, eq-eqb, eqb-true, ltb-true}
 use Rattle.std.proofs.lemmas.List.{take-take, get_or-take}
@@ -15,18 +15,23 @@ use Rattle.udf_volume_model.specs.Kept.{KeptSequence, kept, other, kept_sequence
 use Rattle.udf_volume_model.specs.Areas.{is_outside}
 use Rattle.udf_volume_model.specs.Layout.{earlier, is_passed}
 use Rattle.udf_volume_model.specs.Rules.{is_eligible, anchors_hold, sequences_hold}
+use Rattle.udf_volume_model.specs.SparingRule.{table_edits}
+use Rattle.udf_volume_model.specs.AllRules.{layout_in}
 use Rattle.udf_volume_model.specs.Edits.{look}
 use Rattle.udf_volume_model.specs.Mended.{copies, end_block, logical_block, sequence_edits, anchor_edits, edits}
 use Rattle.udf_volume_model.specs.Opened.{is_opened_by, is_opened, volume_mended}
 use Rattle.udf_volume_laws.proofs.Walk.{Walks}
 use Rattle.udf_volume_laws.proofs.Moved.{IsTagged, moved_tagged, listed_tells}
 use Rattle.udf_volume_laws.proofs.Copies.{end_tagged}
-use Rattle.udf_volume_laws.proofs.Puts.{off, look_both, look_here, look_past}
+use Rattle.udf_volume_laws.proofs.Puts.{off, off_both, look_both, look_here, look_past}
 use Rattle.udf_volume_laws.proofs.Members.{IsIn}
 use Rattle.udf_volume_laws.proofs.Ascending.{to_ascending}
 use Rattle.udf_volume_laws.proofs.Places.{two_tagged}
 use Rattle.udf_volume_laws.proofs.Difference.{length_kept}
-use Rattle.udf_volume_laws.proofs.After.{IsOpened, Facts, facts, areas_in, after, whole, outside_stays, anchor_there, anchors_off_edits}
+use Rattle.udf_volume_laws.proofs.Taken.{IsOpened, Facts, facts, taken_in}
+use Rattle.udf_volume_laws.proofs.Beside.{anchors_off_edits}
+use Rattle.udf_volume_laws.proofs.Spares.{spares, tables_off, tables_high}
+use Rattle.udf_volume_laws.proofs.After.{after, whole, outside_stays, anchor_there}
 use Rattle.udf_volume_laws.proofs.Led.{walks_of}
 use Rattle.udf_volume_laws.proofs.Pair.{kept_sequence}
 use Rattle.udf_volume_laws.proofs.Final.{opened_parts, given, put_disk, mended_is}
@@ -97,27 +102,27 @@ module _ (size blocks : ℕ) (disk : ℕ → List ℕ) (volume : KeptSequence) (
   known = facts size blocks disk volume held
 
   -- 256 lies in no area, since it is the kept place or an earlier one
-  outside_first : 256 < blocks → is_outside (areas_in size volume) 256 ≡ true
+  outside_first : 256 < blocks → is_outside (taken_in size disk volume) 256 ≡ true
   unfolding earlier is_passed
   outside_first many =
       let first = first_place blocks many in
-      let passed : list_all (is_passed size blocks disk (areas_in size volume)) (earlier volume.place (256 ∷ first.0)) ≡ true =
-      subst (λ (l : List ℕ). list_all (is_passed size blocks disk (areas_in size volume)) (earlier volume.place l) ≡ true) first.1 known.passed in
+      let passed : list_all (is_passed size blocks disk (taken_in size disk volume)) (earlier volume.place (256 ∷ first.0)) ≡ true =
+      subst (λ (l : List ℕ). list_all (is_passed size blocks disk (taken_in size disk volume)) (earlier volume.place l) ≡ true) first.1 known.passed in
       by_place (cases_Bool (256 == volume.place)) first.0 passed where
         by_place : ((256 == volume.place) ≡ true) ⊎ ((256 == volume.place) ≡ false) → (rest : List ℕ)
-            → list_all (is_passed size blocks disk (areas_in size volume)) (earlier volume.place (256 ∷ rest)) ≡ true
-            → is_outside (areas_in size volume) 256 ≡ true
-        by_place (inl here) rest passed = ap (is_outside (areas_in size volume)) (eqb-true 256 volume.place here) ∙ known.outside
+            → list_all (is_passed size blocks disk (taken_in size disk volume)) (earlier volume.place (256 ∷ rest)) ≡ true
+            → is_outside (taken_in size disk volume) 256 ≡ true
+        by_place (inl here) rest passed = ap (is_outside (taken_in size disk volume)) (eqb-true 256 volume.place here) ∙ known.outside
         by_place (inr other) rest passed =
-            let shown : list_all (is_passed size blocks disk (areas_in size volume)) (256 ∷ earlier volume.place rest) ≡ true =
-            ap (λ (b : Bool). list_all (is_passed size blocks disk (areas_in size volume)) (cond b [] (256 ∷ earlier volume.place rest))) (sym other) ∙ passed in
+            let shown : list_all (is_passed size blocks disk (taken_in size disk volume)) (256 ∷ earlier volume.place rest) ≡ true =
+            ap (λ (b : Bool). list_all (is_passed size blocks disk (taken_in size disk volume)) (cond b [] (256 ∷ earlier volume.place rest))) (sym other) ∙ passed in
             (and_parts _ _ (and_parts _ _ shown).0).0
 
   -- an anchor at 256 stays one
   anchor_stays : 256 < blocks → is_id 2 (id_at 256 (disk 256)) ≡ true → is_id 2 (id_at 256 (after size blocks disk volume held 256)) ≡ true
   unfolding is_eligible
-  anchor_stays many is = by_rule (cases_Bool (anchors_hold size blocks disk volume)) where
-    by_rule : (anchors_hold size blocks disk volume ≡ true) ⊎ (anchors_hold size blocks disk volume ≡ false)
+  anchor_stays many is = by_rule (cases_Bool (anchors_hold blocks (layout_in size disk volume) disk volume)) where
+    by_rule : (anchors_hold blocks (layout_in size disk volume) disk volume ≡ true) ⊎ (anchors_hold blocks (layout_in size disk volume) disk volume ≡ false)
         → is_id 2 (id_at 256 (after size blocks disk volume held 256)) ≡ true
     by_rule (inl holds) = ap (λ (b : List ℕ). is_id 2 (id_at 256 b)) (outside_stays size blocks disk volume held holds 256 (outside_first many)) ∙ is
     by_rule (inr broken) =
@@ -125,17 +130,21 @@ module _ (size blocks : ℕ) (disk : ℕ → List ℕ) (volume : KeptSequence) (
         let place : IsIn 256 (places blocks) = subst (λ (l : List ℕ). IsIn 256 l) (sym first.1) (inl refl) in
         (anchor_there size blocks disk volume held broken 256 (to_ascending blocks 256 place) (outside_first many)).tagged
 
-  -- a block below 256 stays, or becomes one that is no anchor
-  below_first : (k : ℕ) → k < 256 → IsNoAnchor (disk k) (after size blocks disk volume held k)
+  -- a block up to 128 stays, or becomes one that is no anchor: tables stand higher
+  below_first : (k : ℕ) → k ≤ 128 → IsNoAnchor (disk k) (after size blocks disk volume held k)
   unfolding look edits sequence_edits is_eligible
   below_first k low =
       subst (IsNoAnchor (disk k))
-      (sym (look_both k (sequence_edits size disk volume) (anchor_edits size blocks disk volume) (disk k)
+      (sym (look_both k (sequence_edits size disk volume) (anchor_edits blocks (layout_in size disk volume) disk volume ++ table_edits size disk volume.list) (disk k)
       ∙ ap (look k (sequence_edits size disk volume))
-      (off k (anchor_edits size blocks disk volume) (disk k) (anchors_off_edits size blocks disk volume k (inl (too_low k low))))))
+      (off k (anchor_edits blocks (layout_in size disk volume) disk volume ++ table_edits size disk volume.list) (disk k)
+      (off_both k (anchor_edits blocks (layout_in size disk volume) disk volume) (table_edits size disk volume.list)
+      (anchors_off_edits size blocks disk volume k (inl (too_low k (omega arith))))
+      (tables_off size blocks disk volume.list (omega (arith, held.large)) held.full (spares size blocks disk volume.anchor volume.list known.lawful known.table) k
+      (λ area i. inl (omega (arith, tables_high size blocks volume.anchor volume.list known.lawful area i))))))))
       (by_rule (sequences_hold size disk volume)) where
-        too_low : (k : ℕ) → k < 256 → is_eligible (areas_in size volume) k ≡ false
-        too_low k low = ap (λ (b : Bool). b && is_outside (areas_in size volume) k) (lt-leb 256 k low)
+        too_low : (k : ℕ) → k < 256 → is_eligible (taken_in size disk volume) k ≡ false
+        too_low k low = ap (λ (b : Bool). b && is_outside (taken_in size disk volume) k) (lt-leb 256 k low)
 
         by_rule : (b : Bool) → IsNoAnchor (disk k) (look k (cond b [] (copies size disk (logical_block disk volume) (kept volume).start (other volume).start (length volume.list))) (disk k))
         by_rule true = inl refl
@@ -182,8 +191,8 @@ module _ (size : ℕ) (image : List ℕ) (wide : 512 ≤ size) (opened : is_open
       (ap (λ (disk : ℕ → List ℕ). is_id 2 (id_at 256 (disk 256))) disk_after
       ∙ anchor_stays size (blocks_in size image) (block_of size image) parts.1.0 held (ltb-true _ _ both.0) both.1)
 
-  -- a smaller one, whose block 256 begins a block below 256
-  pub smaller_stays : (small k : ℕ) → 2 ≤ small → small ≤ size → k * size ≡ 256 * small → k < 256 → has_size image small ≡ false → has_size mended small ≡ false
+  -- a smaller one, whose block 256 begins a block up to 128
+  pub smaller_stays : (small k : ℕ) → 2 ≤ small → small ≤ size → k * size ≡ 256 * small → k ≤ 128 → has_size image small ≡ false → has_size mended small ≡ false
   unfolding has_size
   smaller_stays small k some le at low none = by_test (cases_Bool (has_size mended small)) where
     same_front : block_of size mended k ≡ block_of size image k → has_size mended small ≡ has_size image small

@@ -1,16 +1,18 @@
 //! The laws of volumes: what prevailing means, that findings come exactly where a rule is broken, and what the mends of
-//! anchors and sequences keep and give. Each law is the contract of a function with an empty body. It stands on the
-//! definitions of volumes; the layers above cite the laws through the same definitions.
+//! anchors, sequences and sparing tables keep and give. Each law is the contract of a function with an empty body. It
+//! stands on the definitions of volumes; the layers above cite the laws through the same definitions.
 #![tactic(auto)]
 
 ghost use Rattle.std.specs.Prelude.{◌≡◌, ◌<◌, ◌≤◌, ℕ, List, [], Some, None, length, slice_get, true, false};
+ghost use Rattle.std.specs.List.{list_any};
 ghost use Rattle.udf_model.specs.Image.{block_of, blocks_in};
 ghost use Rattle.udf_volume_model.specs.Sequence.{Descriptor};
 ghost use Rattle.udf_volume_model.specs.Prevailing.{is_of, prevailing, prevailing_index, Prevails};
 ghost use Rattle.udf_volume_model.specs.Size.{found_size};
 ghost use Rattle.udf_volume_model.specs.Kept.{KeptSequence, kept_sequence_of};
-ghost use Rattle.udf_volume_model.specs.Areas.{partition_area, covers};
-ghost use Rattle.udf_volume_model.specs.Rules.{findings, rules_hold};
+ghost use Rattle.udf_volume_model.specs.Areas.{partition_area, covers, packets_of};
+ghost use Rattle.udf_volume_model.specs.Layout.{is_lawful};
+ghost use Rattle.udf_volume_model.specs.AllRules.{layout_in, findings, rules_hold};
 ghost use Rattle.udf_volume_model.specs.Order.{Ascends};
 ghost use Rattle.udf_volume_model.specs.Edits.{look, put_blocks, are_edits, is_off};
 ghost use Rattle.udf_volume_model.specs.Mended.{edits};
@@ -35,13 +37,15 @@ pub fn prevailing_law()
         → (k : ℕ) (other : Descriptor) → slice_get list k ≡ Some other → is_of kind subject other ≡ false }
 {}
 
-/// Nothing is found exactly where no rule is broken, and findings stand in the order of rules, then of sectors.
+/// Nothing is found exactly where no rule is broken, and findings stand in the order of rules, then of sectors. The order is
+/// that of lawful areas: two sparing tables that are listed at one sector would be found there twice.
 pub fn findings_law()
     ensures unbroken { (size blocks : ℕ) (disk : ℕ → List ℕ) (volume : KeptSequence) → rules_hold size blocks disk volume ≡ true
         → findings size blocks disk volume ≡ [] }
     ensures broken { (size blocks : ℕ) (disk : ℕ → List ℕ) (volume : KeptSequence) → findings size blocks disk volume ≡ []
         → rules_hold size blocks disk volume ≡ true }
-    ensures order { (size blocks : ℕ) (disk : ℕ → List ℕ) (volume : KeptSequence) → Ascends (findings size blocks disk volume) }
+    ensures order { (size blocks : ℕ) (disk : ℕ → List ℕ) (volume : KeptSequence) → is_lawful size blocks disk volume ≡ true
+        → Ascends (findings size blocks disk volume) }
 {}
 
 /// Blocks that are put stand there, the first of a sector; every other block and the length stay.
@@ -53,32 +57,38 @@ pub fn edits_law()
     ensures off { (n : ℕ) (edits : List (ℕ × List ℕ)) (block : List ℕ) → is_off n edits ≡ true → look n edits block ≡ block }
 {}
 
-/// The mended image of one whose volume is opened has it opened, breaks no rule, and is the same volume, whose kept anchor
-/// stands where it stood or at an earlier place and whose kept sequence is the main one; mending it again changes nothing. A
-/// broken rule makes a difference, and no broken rule none. The block size that is found in the image is found in the mended one.
+/// The mended image of one whose volume is opened has it opened, breaks no rule, and has the same volume, its layout and its
+/// sparing table included, whose kept anchor stands where it stood or at an earlier place and whose kept sequence is the main
+/// one; mending it again changes nothing. A broken rule makes a difference, and no broken rule none. The block size that is
+/// found in the image is found in the mended one.
 pub fn mend_law()
     ensures same_length { (size : ℕ) (image : List ℕ) → 512 ≤ size → length (volume_mended size image) ≡ length image }
     ensures opened { (size : ℕ) (image : List ℕ) → 512 ≤ size → is_opened size image ≡ true → is_opened size (volume_mended size image) ≡ true }
-    ensures unbroken { (size : ℕ) (image : List ℕ) → 512 ≤ size → is_opened size image ≡ true → is_volume_unbroken size (volume_mended size image) ≡ true }
+    ensures unbroken { (size : ℕ) (image : List ℕ) → 512 ≤ size → is_opened size image ≡ true
+        → is_volume_unbroken size (volume_mended size image) ≡ true }
     ensures volume { (size : ℕ) (image : List ℕ) → 512 ≤ size → is_opened size image ≡ true
-        → IsSameVolume size (blocks_in size image) (kept_sequence_of size image) (kept_sequence_of size (volume_mended size image)) }
+        → IsSameVolume size image (volume_mended size image) }
     ensures again { (size : ℕ) (image : List ℕ) → 512 ≤ size → volume_mended size (volume_mended size image) ≡ volume_mended size image }
     ensures still { (size : ℕ) (image : List ℕ) → is_volume_unbroken size image ≡ true → volume_mended size image ≡ image }
-    ensures differs { (size : ℕ) (image : List ℕ) → 512 ≤ size → is_opened size image ≡ true → is_volume_unbroken size image ≡ false
-        → 1 ≤ length (difference size image (volume_mended size image)) }
+    ensures differs { (size : ℕ) (image : List ℕ) → 512 ≤ size → is_opened size image ≡ true
+        → is_volume_unbroken size image ≡ false → 1 ≤ length (difference size image (volume_mended size image)) }
     ensures alike { (size : ℕ) (image : List ℕ) → is_volume_unbroken size image ≡ true → difference size image (volume_mended size image) ≡ [] }
     ensures size { (image : List ℕ) (size : ℕ) → found_size image ≡ Some size → is_opened size image ≡ true
         → found_size (volume_mended size image) ≡ Some size }
 {}
 
-/// What the mends write: the blocks of the edits, none of which is a block of the partition, a sealed one or one past the
-/// whole blocks of the image.
+/// What the mends write: the blocks of the edits, none of which is a block of the partition, one of a used packet, a sealed
+/// one or one past the whole blocks of the image.
 pub fn written_law()
     ensures blocks { (size : ℕ) (image : List ℕ) (volume : KeptSequence) (n : ℕ) → 512 ≤ size → is_opened size image ≡ true
         → kept_sequence_of size image ≡ Some volume
         → block_of size (volume_mended size image) n ≡ look n (edits size (blocks_in size image) (block_of size image) volume) (block_of size image n) }
     ensures partition { (size : ℕ) (image : List ℕ) (volume : KeptSequence) (n : ℕ) → 512 ≤ size → is_opened size image ≡ true
         → kept_sequence_of size image ≡ Some volume → covers (partition_area volume.list) n ≡ true
+        → block_of size (volume_mended size image) n ≡ block_of size image n }
+    ensures packets { (size : ℕ) (image : List ℕ) (volume : KeptSequence) (n : ℕ) → 512 ≤ size → is_opened size image ≡ true
+        → kept_sequence_of size image ≡ Some volume
+        → list_any (λ area. covers area n) (packets_of (layout_in size (block_of size image) volume).table) ≡ true
         → block_of size (volume_mended size image) n ≡ block_of size image n }
     ensures sealed { (size : ℕ) (image : List ℕ) (volume : KeptSequence) (n : ℕ) → 512 ≤ size → is_opened size image ≡ true
         → kept_sequence_of size image ≡ Some volume → is_sealed volume n ≡ true
@@ -87,16 +97,17 @@ pub fn written_law()
         → block_of size (volume_mended size image) n ≡ block_of size image n }
 {}
 
-/// A volume, its refusals and its rules are read from the blocks of both sequence extents and from the places outside
-/// its areas: an image that agrees there has the same, and so has the image with blocks put elsewhere.
+/// A volume, its refusals and its rules are read from the blocks of both sequence extents and of the sparing tables, and
+/// from the places outside what it takes: an image that agrees there has the same, and so has the image with blocks put
+/// elsewhere.
 pub fn frame_law()
     ensures agree { (size : ℕ) (image other : List ℕ) (volume : KeptSequence) → 512 ≤ size → is_opened size image ≡ true
         → kept_sequence_of size image ≡ Some volume → length other ≡ length image
-        → ((n : ℕ) → is_read size (blocks_in size image) volume n ≡ true → block_of size other n ≡ block_of size image n)
+        → ((n : ℕ) → is_read size (blocks_in size image) (block_of size image) volume n ≡ true → block_of size other n ≡ block_of size image n)
         → IsUnmoved size image other }
     ensures elsewhere { (size : ℕ) (image : List ℕ) (volume : KeptSequence) (edits : List (ℕ × List ℕ)) → 512 ≤ size → is_opened size image ≡ true
         → kept_sequence_of size image ≡ Some volume → are_edits size (blocks_in size image) edits ≡ true
-        → ((n : ℕ) → is_read size (blocks_in size image) volume n ≡ true → is_off n edits ≡ true)
+        → ((n : ℕ) → is_read size (blocks_in size image) (block_of size image) volume n ≡ true → is_off n edits ≡ true)
         → IsUnmoved size image (put_blocks size edits image) }
 {}
 

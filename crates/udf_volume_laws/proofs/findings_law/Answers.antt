@@ -1,4 +1,5 @@
-use Rattle.udf_volume_laws.proofs.Findings.{unbroken, broken, order}
+use Rattle.udf_volume_laws.proofs.Findings.{unbroken, broken}
+use Rattle.udf_volume_laws.proofs.Order.{order}
 use Rattle.udf_volume_laws.proofs.findings_law.Goals as goal
 
 pub returns-clause-unbroken : goal.returns-clause-unbroken

@@ -1,8 +1,8 @@
 use Rattle.std.proofs.Common.{sym, subst, Option, Some}
-use Rattle.udf_model.specs.Image.{blocks_in}
+use Rattle.udf_model.specs.Image.{block_of, blocks_in}
 use Rattle.udf_volume_model.specs.Kept.{KeptSequence, kept_sequence_of}
 use Rattle.udf_volume_model.specs.Opened.{volume_mended}
-use Rattle.udf_volume_model.specs.Same.{IsSameVolume}
+use Rattle.udf_volume_model.specs.Same.{IsSameOn}
 use Rattle.udf_volume_laws.proofs.Final.{mended_image}
 use Rattle.udf_volume_laws.proofs.Twice.{stays, mended_twice}
 use Rattle.udf_volume_laws.proofs.Sizes.{found_stays}
@@ -21,8 +21,9 @@ returns-clause-unbroken c = λ size image large a. (mended_image size image larg
 pub returns-clause-volume : goal.returns-clause-volume
 returns-clause-volume c = λ size image large a.
     let m = mended_image size image large a in
-    subst (λ (o : Option KeptSequence). IsSameVolume size (blocks_in size image) o (kept_sequence_of size (volume_mended size image))) (sym m.before_volume)
-    (subst (λ (o : Option KeptSequence). IsSameVolume size (blocks_in size image) (Some m.before_is) o) (sym m.after_volume) m.same)
+    let mended = volume_mended size image in
+    subst (λ (o : Option KeptSequence). IsSameOn size (blocks_in size image) (block_of size image) (block_of size mended) o (kept_sequence_of size mended)) (sym m.before_volume)
+    (subst (λ (o : Option KeptSequence). IsSameOn size (blocks_in size image) (block_of size image) (block_of size mended) (Some m.before_is) o) (sym m.after_volume) m.same)
 
 pub returns-clause-again : goal.returns-clause-again
 returns-clause-again c = mended_twice
