@@ -1,11 +1,14 @@
 -- What is reported of a volume of the image is what the rules find.
-use Rattle.std.proofs.Common.{◌≡◌, ℕ, ◌-◌, ◌≤◌, arith, refl, sym, ◌∙◌, ap, List, [], ◌∷◌, ◌++◌, length, map, Bool, true, false, cond, Ok}
+use Rattle.std.proofs.Common.{◌≡◌, ℕ, ◌-◌, ◌≤◌, arith, refl, sym, ◌∙◌, ap, List, [], ◌∷◌, ◌++◌, length, map, Bool, true, false, cond, Ok, append-nil}
 use Rattle.udf_model.specs.Image.{block_of, blocks_in}
 use Rattle.udf_volume_model.specs.Sequence.{Descriptor, views, front_of}
 use Rattle.udf_volume_model.specs.Anchor.{Extent, blocks_of}
 use Rattle.udf_volume_model.specs.Kept.{KeptSequence, other}
 use Rattle.udf_volume_model.specs.Rules as model
-use Rattle.udf_volume_model.specs.Rules.{Finding, eligible, is_good, good_of, bad_of, anchors_hold, anchor_findings, sequences_hold, sequence_findings, findings}
+use Rattle.udf_volume_model.specs.Rules.{Finding, eligible, is_good, good_of, bad_of, anchors_hold, anchor_findings, sequences_hold, sequence_findings}
+use Rattle.udf_volume_model.specs.AllRules.{findings, layout_in}
+use Rattle.udf_volume_model.specs.Areas.{Layout}
+use Rattle.udf_volume_model.proofs.Physical.{none_found}
 use Rattle.udf_volume.specs.declared.volume.Volume as code
 use Rattle.udf_volume.specs.declared.good_anchors.AnchorVerdict.{AnchorVerdict}
 use Rattle.udf_volume.specs.declared.agreement.SequenceVerdict.{SequenceVerdict}
@@ -25,8 +28,11 @@ map-map f [] = refl
 map-map f (x ∷ xs) = ap (λ l. finding_of (f x) ∷ l) (map-map f xs)
 
 module _ (size blocks : ℕ) (disk : ℕ → List ℕ) (v : KeptSequence) where
+  abbrev layout : Layout
+  layout = layout_in size disk v
+
   abbrev E : List ℕ
-  E = eligible size blocks v
+  E = eligible blocks layout
 
   abbrev good : ℕ → Bool
   good place = is_good v.anchor place (disk place)
@@ -39,12 +45,12 @@ module _ (size blocks : ℕ) (disk : ℕ → List ℕ) (v : KeptSequence) where
   reports true = refl
   reports false = map-map _ (bad_of disk v E)
 
-  pub anchors_are : anchor_report (anchors_hold size blocks disk v) E (bad_of disk v E) ≡ map finding_of (anchor_findings size blocks disk v)
+  pub anchors_are : anchor_report (anchors_hold blocks layout disk v) E (bad_of disk v E) ≡ map finding_of (anchor_findings blocks layout disk v)
   unfolding anchor_report anchor_findings
   anchors_are =
-      ap (λ n. cond (anchors_hold size blocks disk v) []
+      ap (λ n. cond (anchors_hold blocks layout disk v) []
       (map (λ place. record { rule = 2; place = Sector place; first = n; second = length E }) (bad_of disk v E))) good_many
-      ∙ sym (reports (anchors_hold size blocks disk v))
+      ∙ sym (reports (anchors_hold blocks layout disk v))
 
   by_hold : (b : Bool) (start read many : ℕ)
       → sequence_report b start read many ≡ map finding_of (cond b [] (record { rule = 3; place = model.Sector start; first = read; second = many } ∷ []))
@@ -68,12 +74,12 @@ module _ (image : List ℕ) (volume : code.Volume) (v : KeptSequence) (d : Descr
   abbrev disk : ℕ → List ℕ
   disk = block_of volume.size image
 
-  pub anchors_reported_is : anchors_reported volume image ≡ map finding_of (anchor_findings size (blocks_in size image) disk v)
+  pub anchors_reported_is : anchors_reported volume image ≡ map finding_of (anchor_findings (blocks_in size image) (layout_in size disk v) disk v)
   unfolding anchors_reported
   anchors_reported_is =
       ap (λ b. anchor_report b (eligible_stated volume) (bad_stated volume image)) (suffice_is size image volume v d)
-      ∙ ap (λ l. anchor_report (anchors_hold size (blocks_in size image) disk v) l (bad_stated volume image)) (eligible_is size image volume v d)
-      ∙ ap (λ l. anchor_report (anchors_hold size (blocks_in size image) disk v) (eligible size (blocks_in size image) v) l) (bad_is size image volume v d)
+      ∙ ap (λ l. anchor_report (anchors_hold (blocks_in size image) (layout_in size disk v) disk v) l (bad_stated volume image)) (eligible_is size image volume v d)
+      ∙ ap (λ l. anchor_report (anchors_hold (blocks_in size image) (layout_in size disk v) disk v) (eligible (blocks_in size image) (layout_in size disk v)) l) (bad_is size image volume v d)
       ∙ anchors_are size (blocks_in size image) disk v
 
   pub sequences_reported_is : sequences_reported volume image ≡ map finding_of (sequence_findings size disk v)
@@ -90,8 +96,11 @@ module _ (image : List ℕ) (volume : code.Volume) (v : KeptSequence) (d : Descr
   unfolding findings_in findings
   found_is =
       ap (λ l. l ++ sequences_reported volume image) anchors_reported_is
-      ∙ ap (λ l. map finding_of (anchor_findings size (blocks_in size image) disk v) ++ l) sequences_reported_is
-      ∙ sym (map-both (anchor_findings size (blocks_in size image) disk v) (sequence_findings size disk v))
+      ∙ ap (λ l. map finding_of (anchor_findings (blocks_in size image) (layout_in size disk v) disk v) ++ l) sequences_reported_is
+      ∙ sym (map-both (anchor_findings (blocks_in size image) (layout_in size disk v) disk v) (sequence_findings size disk v))
+      ∙ ap (λ l. map finding_of (anchor_findings (blocks_in size image) (layout_in size disk v) disk v ++ l)) (sym (append-nil (sequence_findings size disk v)))
+      ∙ ap (λ l. map finding_of (anchor_findings (blocks_in size image) (layout_in size disk v) disk v ++ (sequence_findings size disk v ++ l)))
+      (sym (none_found v.list d.physical size disk))
       ∙ sym (ap (findings_by size image) d.found)
 
 -- what is found of a volume that was opened

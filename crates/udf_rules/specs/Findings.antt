@@ -3,7 +3,7 @@ use Rattle.std.specs.Prelude.{ℕ, Bool, ◌-◌, if◌then◌else◌, List, [],
 use Rattle.udf_model.specs.Image.{block_of, blocks_in}
 use Rattle.udf_volume_model.specs.Kept.{KeptSequence, kept_sequence_of}
 use Rattle.udf_volume_model.specs.Rules as model
-use Rattle.udf_volume_model.specs.Rules.{findings}
+use Rattle.udf_volume_model.specs.AllRules.{findings}
 use Rattle.udf_rules.specs.declared.finding.Place.{Place}
 use Rattle.udf_rules.specs.declared.finding.Place.TheVariants.{Sector, At}
 use Rattle.udf_rules.specs.declared.finding.Finding.{Finding}
