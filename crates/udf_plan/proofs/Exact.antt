@@ -1,5 +1,5 @@
 -- What is added to a plan of the image's volume is exactly the difference of the mended image.
-use Rattle.std.proofs.Common.{◌≡◌, ◌⊎◌, inl, inr, ℕ, ◌+◌, ◌-◌, ◌<◌, ◌≤◌, arith, refl, sym, ◌∙◌, ap, List, [], ◌∷◌, ◌++◌, length, map, Bool, true, false, cond, not, eqb, leb, ltb, Some, None}
+use Rattle.std.proofs.Common.{◌≡◌, ◌⊎◌, inl, inr, ℕ, ◌+◌, ◌-◌, ◌<◌, ◌≤◌, arith, refl, sym, ◌∙◌, ap, List, [], ◌∷◌, ◌++◌, length, map, Bool, true, false, cond, not, ◌&&◌, eqb, leb, ltb, Some, None}
 use Rattle.std.specs.List.{filter, range_with_len}
 use Rattle.std.specs.Str.{bytes_eq}
 use Rattle.std.proofs.lemmas.Bool.{and_parts, cases_Bool, cases_lt, cases_eq, le-leb, lt-ltb, eq-eqb, ne_eqb}
@@ -10,7 +10,9 @@ use Rattle.udf_volume_model.specs.Kept as model
 use Rattle.udf_volume_model.specs.Kept.{kept, other, kept_sequence_of}
 use Rattle.udf_volume_model.specs.Rules.{eligible, bad_of, anchors_hold, sequences_hold}
 use Rattle.udf_volume_model.specs.Profile.{has_block_size, is_profile}
-use Rattle.udf_volume_model.specs.Layout.{is_lawful}
+use Rattle.udf_volume_model.specs.Layout.{is_lawful, is_spared}
+use Rattle.udf_volume_model.specs.Areas.{Layout}
+use Rattle.udf_volume_model.specs.AllRules.{layout_in}
 use Rattle.udf_volume_model.specs.Mended.{logical_block, end_block}
 use Rattle.udf_volume_model.specs.Opened.{is_opened, volume_mended, plan_of}
 use Rattle.udf_volume_model.specs.Plans.{planned, ClimbsFrom}
@@ -37,7 +39,7 @@ sized_of : (size : ℕ) (image : List ℕ) (v : model.KeptSequence) → 512 ≤ 
 unfolding is_profile
 sized_of size image v large accepted found =
     let held = held_of size image v large accepted found in
-    let profile : is_profile size v.list ≡ true = (and_parts (is_profile size v.list) (is_lawful size (blocks_in size image) (block_of size image) v) held.opened).0 in
+    let profile : is_profile size v.list ≡ true = (and_parts (is_profile size v.list) (is_lawful size (blocks_in size image) (block_of size image) v && is_spared size (blocks_in size image) (block_of size image) v) held.opened).0 in
     (and_parts (has_block_size size v.list) _ profile).0
 
 -- members
@@ -123,6 +125,9 @@ module _ (size : ℕ) (image : List ℕ) (volume : Volume) (v : model.KeptSequen
   abbrev disk : ℕ → List ℕ
   disk = block_of size image
 
+  abbrev layout : Layout
+  layout = layout_in size (block_of size image) v
+
   count_is : volume.count ≡ length v.list
   unfolding volume_by
   count_is = ap (λ (x : Volume). x.count) d.is
@@ -132,12 +137,12 @@ module _ (size : ℕ) (image : List ℕ) (volume : Volume) (v : model.KeptSequen
   place_is = ap (λ (x : Volume). x.anchor) d.is
 
   abbrev ruled : List ℕ
-  ruled = to_mend (anchors_hold size (blocks_in size image) (block_of size image) v) (bad_of (block_of size image) v (eligible size (blocks_in size image) v))
+  ruled = to_mend (anchors_hold (blocks_in size image) layout (block_of size image) v) (bad_of (block_of size image) v (eligible (blocks_in size image) layout))
 
   wanted_is : places_mended volume image ≡ ruled
   wanted_is =
       ap (λ b. to_mend b (bad_stated volume image)) (suffice_is size image volume v d)
-      ∙ ap (to_mend (anchors_hold size (blocks_in size image) (block_of size image) v)) (bad_is size image volume v d)
+      ∙ ap (to_mend (anchors_hold (blocks_in size image) layout (block_of size image) v)) (bad_is size image volume v d)
 
   abbrev start : ℕ
   start = (other v).start
@@ -201,12 +206,12 @@ module _ (size : ℕ) (image : List ℕ) (volume : Volume) (v : model.KeptSequen
     logical = logical_is size image volume v d large (sized_of size image v large accepted d.found)
 
     ruled_final : (n : ℕ) → IsIn n ruled → relocated n (block_of size image v.place) ≡ block_of size (volume_mended size image) n
-    ruled_final n i = by_rule (anchors_hold size (blocks_in size image) (block_of size image) v) refl i where
-      by_rule : (b : Bool) → anchors_hold size (blocks_in size image) (block_of size image) v ≡ b
-          → IsIn n (cond b [] (bad_of (block_of size image) v (eligible size (blocks_in size image) v)))
+    ruled_final n i = by_rule (anchors_hold (blocks_in size image) layout (block_of size image) v) refl i where
+      by_rule : (b : Bool) → anchors_hold (blocks_in size image) layout (block_of size image) v ≡ b
+          → IsIn n (cond b [] (bad_of (block_of size image) v (eligible (blocks_in size image) layout)))
           → relocated n (block_of size image v.place) ≡ block_of size (volume_mended size image) n
       by_rule true e j = absurd j
-      by_rule false e j = place_final size image v large accepted d.found e n j
+      by_rule false e j = place_final size image v large accepted d.found d.physical e n j
 
     anchors_final : (test : ℕ → Bool) → anchors_of (filter test ruled) ≡ changes (block_of size image) final (filter test ruled)
     anchors_final test =
@@ -225,7 +230,7 @@ module _ (size : ℕ) (image : List ℕ) (volume : Volume) (v : model.KeptSequen
         let at : (other v).start + k ≡ n = omega (arith, r.0) in
         let low : k < length v.list = omega (arith, r.0, r.1) in
         ap (λ m. relocated m (block_of size image ((kept v).start + k))) (sym at)
-        ∙ sym (copy_final size image v large accepted d.found e k low) ∙ ap final at))
+        ∙ sym (copy_final size image v large accepted d.found d.physical e k low) ∙ ap final at))
         ∙ ap (λ more. changes (block_of size image) final (range_with_len (other v).start (length v.list)) ++ more)
         (changes_alike (block_of size image)
         (λ n. end_block size n (block_of size image ((kept v).start + length v.list)) (logical_block (block_of size image) v)) final (((other v).start + length v.list) ∷ [])
@@ -235,7 +240,7 @@ module _ (size : ℕ) (image : List ℕ) (volume : Volume) (v : model.KeptSequen
               → end_block size n (block_of size image ((kept v).start + length v.list)) (logical_block (block_of size image) v) ≡ block_of size (volume_mended size image) n
           by_one n (inl at) =
               ap (λ m. end_block size m (block_of size image ((kept v).start + length v.list)) (logical_block (block_of size image) v)) at
-              ∙ sym (end_final size image v large accepted d.found e) ∙ ap (λ m. block_of size (volume_mended size image) m) (sym at)
+              ∙ sym (end_final size image v large accepted d.found d.physical e) ∙ ap (λ m. block_of size (volume_mended size image) m) (sym at)
           by_one n (inr i) = absurd i
 
     -- every sector that differs is among them
@@ -261,8 +266,8 @@ module _ (size : ℕ) (image : List ℕ) (volume : Volume) (v : model.KeptSequen
           by_rule false e f = inr (by_side f (cases_lt n (other v).start) (cases_lt ((other v).start + length v.list) n))
 
     anchors_off : (n : ℕ) → (IsIn n sectors → ⊥)
-        → (anchors_hold size (blocks_in size image) (block_of size image) v ≡ true) ⊎ (IsIn n (bad_of (block_of size image) v (eligible size (blocks_in size image) v)) → ⊥)
-    anchors_off n off = by_rule (anchors_hold size (blocks_in size image) (block_of size image) v) refl by_side where
+        → (anchors_hold (blocks_in size image) layout (block_of size image) v ≡ true) ⊎ (IsIn n (bad_of (block_of size image) v (eligible (blocks_in size image) layout)) → ⊥)
+    anchors_off n off = by_rule (anchors_hold (blocks_in size image) layout (block_of size image) v) refl by_side where
       by_side : IsIn n ruled → ⊥
       by_side i = by_order (cases_lt n (other v).start) where
         by_order : (n < (other v).start) ⊎ ((other v).start ≤ n) → ⊥
@@ -270,13 +275,13 @@ module _ (size : ℕ) (image : List ℕ) (volume : Volume) (v : model.KeptSequen
         by_order (inr l) = off (in_right n (filter (λ place. ltb place (other v).start) ruled) _
             (in_right n (cond (sequences_hold size (block_of size image) v) [] run) _ (in_kept (λ place. leb (other v).start place) ruled n i (le-leb _ _ l))))
 
-      by_rule : (b : Bool) → anchors_hold size (blocks_in size image) (block_of size image) v ≡ b → (IsIn n (cond b [] (bad_of (block_of size image) v (eligible size (blocks_in size image) v))) → ⊥)
-          → (anchors_hold size (blocks_in size image) (block_of size image) v ≡ true) ⊎ (IsIn n (bad_of (block_of size image) v (eligible size (blocks_in size image) v)) → ⊥)
+      by_rule : (b : Bool) → anchors_hold (blocks_in size image) layout (block_of size image) v ≡ b → (IsIn n (cond b [] (bad_of (block_of size image) v (eligible (blocks_in size image) layout))) → ⊥)
+          → (anchors_hold (blocks_in size image) layout (block_of size image) v ≡ true) ⊎ (IsIn n (bad_of (block_of size image) v (eligible (blocks_in size image) layout)) → ⊥)
       by_rule true e f = inl e
       by_rule false e f = inr f
 
     whole : (n : ℕ) → (IsIn n sectors → ⊥) → block_of size (volume_mended size image) n ≡ block_of size image n
-    whole n off = off_final size image v large accepted d.found n (sequence_off n off) (anchors_off n off)
+    whole n off = off_final size image v large accepted d.found d.physical n (sequence_off n off) (anchors_off n off)
 
     changes_are : (places : List ℕ) → places ≡ places_mended volume image → all_changes volume image places ≡ changes (block_of size image) final sectors
     changes_are places p =

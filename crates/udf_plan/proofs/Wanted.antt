@@ -1,16 +1,21 @@
 -- The mended image, sector by sector, in the terms in which a plan is made.
-use Rattle.std.proofs.Common.{◌≡◌, ◌⊎◌, inl, inr, ℕ, zero, suc, ◌+◌, ◌<◌, ◌≤◌, arith, refl, sym, ◌∙◌, ap, subst, List, [], ◌++◌, length, Bool, true, false, cond, not, Some}
+use Rattle.std.proofs.Common.{◌≡◌, ◌⊎◌, inl, inr, ℕ, zero, suc, ◌+◌, ◌<◌, ◌≤◌, arith, refl, sym, ◌∙◌, ap, subst, List, [], ◌++◌, length, Bool, true, false, cond, not, Some, None, append-nil}
 use Rattle.udf_model.specs.Tag.{relocated}
 use Rattle.udf_model.specs.Image.{block_of, blocks_in}
 use Rattle.udf_volume_model.specs.Kept.{KeptSequence, kept, other, kept_sequence_of}
 use Rattle.udf_volume_model.specs.Rules.{ascending_places, is_eligible, eligible, is_good, bad_of, anchors_hold, sequences_hold}
+use Rattle.udf_volume_model.specs.Areas.{Layout, taken}
+use Rattle.udf_volume_model.specs.AllRules.{layout_in}
+use Rattle.udf_volume_model.specs.Stated.{sparing}
 use Rattle.udf_volume_model.specs.Edits.{look}
+use Rattle.udf_volume_model.proofs.Physical.{none_written}
 use Rattle.udf_volume_model.specs.Mended.{logical_block, end_block, copies, sequence_edits, anchor_edits, edits}
 use Rattle.udf_volume_model.specs.Opened.{is_opened, volume_mended}
 use Rattle.udf_volume_laws.proofs.Members.{IsIn, kept_in}
 use Rattle.udf_volume_laws.proofs.Puts.{IsOff, off, off_both, look_both, look_here, look_past, chosen, chosen_off}
 use Rattle.udf_volume_laws.proofs.Copies.{copies_below, copies_above}
-use Rattle.udf_volume_laws.proofs.After.{IsOpened, areas_in, put_there}
+use Rattle.udf_volume_laws.proofs.Facts.{IsOpened}
+use Rattle.udf_volume_laws.proofs.After.{put_there}
 use Rattle.udf_volume_laws.proofs.Final.{held_of}
 use Rattle.udf_volume_laws.proofs.Difference.{mended_block}
 
@@ -52,12 +57,16 @@ not_true : (b : Bool) → not b ≡ true → b ≡ false
 not_true true e = cc
 not_true false e = refl
 
-module _ (size : ℕ) (image : List ℕ) (volume : KeptSequence) (large : 512 ≤ size) (accepted : is_opened size image ≡ true) (is : kept_sequence_of size image ≡ Some volume) where
+module _ (size : ℕ) (image : List ℕ) (volume : KeptSequence) (large : 512 ≤ size) (accepted : is_opened size image ≡ true) (is : kept_sequence_of size image ≡ Some volume)
+    (physical : sparing volume.list ≡ None) where
   abbrev disk : ℕ → List ℕ
   disk = block_of size image
 
   abbrev blocks : ℕ
   blocks = blocks_in size image
+
+  abbrev layout : Layout
+  layout = layout_in size (block_of size image) volume
 
   abbrev final : ℕ → List ℕ
   final n = block_of size (volume_mended size image) n
@@ -65,29 +74,38 @@ module _ (size : ℕ) (image : List ℕ) (volume : KeptSequence) (large : 512 �
   held : IsOpened size (blocks_in size image) (block_of size image) volume
   held = held_of size image volume large accepted is
 
-  by_edits : (n : ℕ) → final n ≡ look n (edits size blocks disk volume) (disk n)
-  by_edits n = mended_block size image volume n large accepted is
+  by_mend : (n : ℕ) → final n ≡ look n (edits size blocks disk volume) (disk n)
+  by_mend n = mended_block size image volume n large accepted is
+
+  -- a physical partition has no sparing tables to mend
+  by_edits : (n : ℕ) → final n ≡ look n (sequence_edits size disk volume ++ anchor_edits blocks layout disk volume) (disk n)
+  unfolding edits
+  by_edits n =
+      by_mend n
+      ∙ ap (λ (tables : List (ℕ × List ℕ)). look n (sequence_edits size disk volume ++ (anchor_edits blocks layout disk volume ++ tables)) (disk n))
+      (none_written volume.list physical size disk)
+      ∙ ap (λ (anchors : List (ℕ × List ℕ)). look n (sequence_edits size disk volume ++ anchors) (disk n)) (append-nil (anchor_edits blocks layout disk volume))
 
   -- a bad place, where the rule on anchors is broken
-  pub place_final : anchors_hold size blocks disk volume ≡ false → (n : ℕ) → IsIn n (bad_of disk volume (eligible size blocks volume))
+  pub place_final : anchors_hold blocks layout disk volume ≡ false → (n : ℕ) → IsIn n (bad_of disk volume (eligible blocks layout))
       → relocated n (disk volume.place) ≡ final n
   unfolding eligible
   place_final broken n i =
-      let bad : (IsIn n (eligible size blocks volume)) × (not (is_good volume.anchor n (disk n)) ≡ true) =
-      kept_in (λ place. not (is_good volume.anchor place (disk place))) (eligible size blocks volume) n i in
-      let member : IsIn n (ascending_places (blocks_in size image)) × (is_eligible (areas_in size volume) n ≡ true) =
-      kept_in (is_eligible (areas_in size volume)) (ascending_places (blocks_in size image)) n bad.0 in
-      sym (by_edits n
+      let bad : (IsIn n (eligible blocks layout)) × (not (is_good volume.anchor n (disk n)) ≡ true) =
+      kept_in (λ place. not (is_good volume.anchor place (disk place))) (eligible blocks layout) n i in
+      let member : IsIn n (ascending_places (blocks_in size image)) × (is_eligible (taken layout) n ≡ true) =
+      kept_in (is_eligible (taken layout)) (ascending_places (blocks_in size image)) n bad.0 in
+      sym (by_mend n
       ∙ put_there size (blocks_in size image) (block_of size image) volume (held_of size image volume large accepted is) broken n member.0 member.1
       (not_true (is_good volume.anchor n (disk n)) bad.1))
 
   -- a copied block, where the rule on sequences is broken
   by_sequence : sequences_hold size disk volume ≡ false → (n : ℕ)
-      → final n ≡ look n (copies size disk (logical_block disk volume) (kept volume).start (other volume).start (length volume.list)) (look n (anchor_edits size blocks disk volume) (disk n))
-  unfolding edits sequence_edits
+      → final n ≡ look n (copies size disk (logical_block disk volume) (kept volume).start (other volume).start (length volume.list)) (look n (anchor_edits blocks layout disk volume) (disk n))
+  unfolding sequence_edits
   by_sequence broken n =
-      by_edits n ∙ look_both n (sequence_edits size disk volume) (anchor_edits size blocks disk volume) (disk n)
-      ∙ ap (λ b. look n (cond b [] (copies size disk (logical_block disk volume) (kept volume).start (other volume).start (length volume.list))) (look n (anchor_edits size blocks disk volume) (disk n))) broken
+      by_edits n ∙ look_both n (sequence_edits size disk volume) (anchor_edits blocks layout disk volume) (disk n)
+      ∙ ap (λ b. look n (cond b [] (copies size disk (logical_block disk volume) (kept volume).start (other volume).start (length volume.list))) (look n (anchor_edits blocks layout disk volume) (disk n))) broken
 
   pub copy_final : sequences_hold size disk volume ≡ false → (i : ℕ) → i < length volume.list
       → final ((other volume).start + i) ≡ relocated ((other volume).start + i) (disk ((kept volume).start + i))
@@ -115,18 +133,17 @@ module _ (size : ℕ) (image : List ℕ) (volume : KeptSequence) (large : 512 �
     by_rule false (inl l) = copies_below size (block_of size image) (logical_block (block_of size image) volume) (length volume.list) (kept volume).start (other volume).start n l
     by_rule false (inr l) = copies_above size (block_of size image) (logical_block (block_of size image) volume) (length volume.list) (kept volume).start (other volume).start n l
 
-  anchors_none : (n : ℕ) → (anchors_hold size blocks disk volume ≡ true) ⊎ (IsIn n (bad_of disk volume (eligible size blocks volume)) → ⊥)
-      → IsOff n (anchor_edits size blocks disk volume)
+  anchors_none : (n : ℕ) → (anchors_hold blocks layout disk volume ≡ true) ⊎ (IsIn n (bad_of disk volume (eligible blocks layout)) → ⊥)
+      → IsOff n (anchor_edits blocks layout disk volume)
   unfolding anchor_edits
   anchors_none n (inl holds) =
-      subst (λ (b : Bool). IsOff n (cond b [] (chosen (λ place. relocated place (disk volume.place)) (bad_of disk volume (eligible size blocks volume))))) (sym holds) tt
-  anchors_none n (inr apart) = by_rule (anchors_hold size (blocks_in size image) (block_of size image) volume) where
-    by_rule : (b : Bool) → IsOff n (cond b [] (chosen (λ place. relocated place (block_of size image volume.place)) (bad_of (block_of size image) volume (eligible size (blocks_in size image) volume))))
+      subst (λ (b : Bool). IsOff n (cond b [] (chosen (λ place. relocated place (disk volume.place)) (bad_of disk volume (eligible blocks layout))))) (sym holds) tt
+  anchors_none n (inr apart) = by_rule (anchors_hold (blocks_in size image) layout (block_of size image) volume) where
+    by_rule : (b : Bool) → IsOff n (cond b [] (chosen (λ place. relocated place (block_of size image volume.place)) (bad_of (block_of size image) volume (eligible (blocks_in size image) layout))))
     by_rule true = tt
-    by_rule false = chosen_off (λ place. relocated place (block_of size image volume.place)) (bad_of (block_of size image) volume (eligible size (blocks_in size image) volume)) n apart
+    by_rule false = chosen_off (λ place. relocated place (block_of size image volume.place)) (bad_of (block_of size image) volume (eligible (blocks_in size image) layout)) n apart
 
   pub off_final : (n : ℕ) → (sequences_hold size disk volume ≡ true) ⊎ ((n < (other volume).start) ⊎ ((other volume).start + length volume.list < n))
-      → (anchors_hold size blocks disk volume ≡ true) ⊎ (IsIn n (bad_of disk volume (eligible size blocks volume)) → ⊥) → final n ≡ disk n
-  unfolding edits
+      → (anchors_hold blocks layout disk volume ≡ true) ⊎ (IsIn n (bad_of disk volume (eligible blocks layout)) → ⊥) → final n ≡ disk n
   off_final n s a =
-      by_edits n ∙ off n (sequence_edits size disk volume ++ anchor_edits size blocks disk volume) (disk n) (off_both n _ _ (sequence_none n s) (anchors_none n a))
+      by_edits n ∙ off n (sequence_edits size disk volume ++ anchor_edits blocks layout disk volume) (disk n) (off_both n _ _ (sequence_none n s) (anchors_none n a))
