@@ -1,5 +1,5 @@
 -- The disk after the mends: the sequences, the anchors and the tables.
-use Rattle.std.proofs.Common.{◌≡◌, ℕ, ◌+◌, ◌^◌, ◌<◌, ◌≤◌, arith, refl, sym, ◌∙◌, ap, subst, List, [], ◌++◌, length, Bool, true, false, cond, leb, Some, inl, inr, ◌⊎◌}
+use Rattle.std.proofs.Common.{◌≡◌, ℕ, ◌+◌, ◌<◌, ◌≤◌, arith, refl, sym, ◌∙◌, ap, subst, List, [], ◌++◌, length, Bool, true, false, cond, leb, Some, inl, inr, ◌⊎◌}
 use Rattle.std.proofs.lemmas.Bool.{and_parts, cases_Bool}
 use Rattle.udf_model.specs.Tag.{relocated}
 use Rattle.udf_volume_model.specs.Sequence.{view_of}

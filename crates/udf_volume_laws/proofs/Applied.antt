@@ -1,5 +1,5 @@
 -- A plan, applied, gives the image afterwards.
-use Rattle.std.proofs.Common.{◌≡◌, ℕ, zero, suc, ◌+◌, ◌/◌, ◌<◌, ◌≤◌, arith, sym, ◌∙◌, ap, List, ◌∷◌, length, Bool, true, false, not, inl, inr, ◌⊎◌}
+use Rattle.std.proofs.Common.{◌≡◌, ℕ, ◌/◌, ◌<◌, ◌≤◌, arith, sym, ◌∙◌, ap, List, length, Bool, true, false, not, inl, inr, ◌⊎◌}
 use mathlib.Core.Path.{fun_ext}
 use Rattle.std.specs.List.{filter, range_with_len}
 use Rattle.std.specs.Str.{bytes_eq}
@@ -9,7 +9,7 @@ use Rattle.udf_volume_model.specs.Edits.{look, put_blocks}
 use Rattle.udf_volume_model.specs.Plans.{IsRewrite}
 use Rattle.udf_volume_model.specs.Opened.{volume_mended, difference, plan_of}
 use Rattle.udf_volume_laws.proofs.Puts.{AreWithin, off, chosen, chosen_off, chosen_put, chosen_within, all_length, block_after}
-use Rattle.udf_volume_laws.proofs.Members.{IsIn, in_range, range_in, kept_in, in_kept}
+use Rattle.udf_volume_laws.proofs.Members.{in_range, range_in, kept_in, in_kept}
 use Rattle.udf_volume_laws.proofs.Within.{block_ends}
 use Rattle.udf_volume_laws.proofs.Final.{block_length}
 use Rattle.udf_volume_laws.proofs.Difference.{same_image, length_kept, past_kept}

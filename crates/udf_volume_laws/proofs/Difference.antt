@@ -6,7 +6,6 @@ use Rattle.std.specs.Str.{bytes_eq}
 use Rattle.std.proofs.lemmas.Bool.{cases_Bool, cases_lt}
 use Rattle.std.proofs.lemmas.List.{get_or-take, get_or-drop, ext_get_or}
 use Rattle.std.proofs.lemmas.Nat.{div-add-mod'}
-use Rattle.std.proofs.lemmas.Slice.Eq.{bytes_eq-Decides}
 use Rattle.udf_model.specs.Bytes.{IsBytes}
 use Rattle.udf_model.specs.Image.{block_of, blocks_in}
 use Rattle.udf_volume_model.specs.Kept.{KeptSequence, kept_sequence_of}
@@ -16,7 +15,7 @@ use Rattle.udf_volume_model.specs.Edits.{look}
 use Rattle.udf_volume_model.specs.Mended.{edits}
 use Rattle.udf_volume_model.specs.Opened.{is_opened, volume_mended, is_volume_unbroken, difference, is_sealed}
 use Rattle.udf_volume_laws.proofs.Taken.{IsOpened}
-use Rattle.udf_volume_laws.proofs.Stays.{partition_stays, packets_stay, sealed_stays, past_stays}
+use Rattle.udf_volume_laws.proofs.Unwritten.{partition_stays, packets_stay, sealed_stays, past_stays}
 use Rattle.udf_volume_laws.proofs.Final.{blocks_are_bytes, opened_parts, held_of, put_disk, mended_is, mended_image}
 use Rattle.udf_volume_laws.proofs.Twice.{unopened, stays}
 use Rattle.udf_volume_laws.proofs.Same.{bytes_same, same_bytes}

@@ -1,8 +1,8 @@
 -- A tag is read from the front of its area that it covers.
-use Rattle.std.proofs.Common.{◌≡◌, ℕ, ◌+◌, ◌-◌, ◌%◌, ◌<◌, ◌≤◌, arith, refl, sym, ◌∙◌, ap, List, take, drop, get_or, length, Bool, true, false, cond, ◌&&◌, eqb, leb, Some, None}
+use Rattle.std.proofs.Common.{◌≡◌, ℕ, ◌+◌, ◌-◌, ◌%◌, ◌≤◌, arith, sym, ◌∙◌, ap, List, take, drop, get_or, length, true, ◌&&◌, eqb, leb}
 use Rattle.std.specs.Prelude.{sum}
-use Rattle.std.proofs.lemmas.Bool.{and_parts, and_from, leb-true, le-leb, eqb-true, eq-eqb}
-use Rattle.std.proofs.lemmas.List.{get_or-take, take-take, drop-take, length-take, length-take-le}
+use Rattle.std.proofs.lemmas.Bool.{and_parts, and_from, leb-true, le-leb}
+use Rattle.std.proofs.lemmas.List.{get_or-take, take-take, drop-take, length-take-le}
 use Rattle.udf_model.specs.Bytes.{number_at}
 use Rattle.udf_model.specs.Crc.{crc_of}
 use Rattle.udf_model.specs.Tag.{is_whole, checksum_of, crc_length, covered, identifier, location}

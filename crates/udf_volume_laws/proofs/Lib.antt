@@ -4,12 +4,14 @@ pub mod Prevail
 pub mod Rising
 pub mod Prevailed
 pub mod Deviating
-pub mod Says
+pub mod TableContent
 pub mod Fronts
 pub mod Cut
 pub mod TableCopy
 pub mod TableEdits
 pub mod TablesAfter
+pub mod Unfit
+pub mod TablesAgain
 pub mod Taken
 pub mod Spares
 pub mod Findings
@@ -25,7 +27,7 @@ pub mod Places
 pub mod Ascending
 pub mod Beside
 pub mod After
-pub mod Stays
+pub mod Unwritten
 pub mod Spared
 pub mod Law
 pub mod Frame
@@ -37,3 +39,4 @@ pub mod Difference
 pub mod OnePlan
 pub mod Applied
 pub mod Others
+pub mod Again

@@ -1,10 +1,10 @@
 -- Findings stand in the order of rules, then of sectors.
-use Rattle.std.proofs.Common.{◌≡◌, inl, inr, ℕ, ◌<◌, ◌≤◌, arith, refl, List, [], ◌∷◌, ◌++◌, length, Bool, true, false, cond, not, map, Option, Some, None}
+use Rattle.std.proofs.Common.{◌≡◌, inl, inr, ℕ, ◌<◌, arith, refl, List, [], ◌∷◌, ◌++◌, length, Bool, true, false, cond, not, map, Option, Some, None}
 use Rattle.std.specs.Prelude.{unwrap_or}
 use Rattle.std.specs.List.{filter}
 use Rattle.udf_volume_model.specs.Anchor.{blocks_of}
 use Rattle.udf_volume_model.specs.Kept.{KeptSequence, other}
-use Rattle.udf_volume_model.specs.Sequence.{Descriptor, views, front_of}
+use Rattle.udf_volume_model.specs.Sequence.{views, front_of}
 use Rattle.udf_volume_model.specs.Stated.{sparing}
 use Rattle.udf_volume_model.specs.Maps.{SparingMap}
 use Rattle.udf_volume_model.specs.SparingTable.{table_area, table_number, sequence_number, prevailing_area}

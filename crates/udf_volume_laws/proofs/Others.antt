@@ -1,7 +1,7 @@
 -- Images that agree where a volume is read from.
-use Rattle.std.proofs.Common.{◌≡◌, ℕ, ◌+◌, ◌/◌, ◌<◌, ◌≤◌, arith, sym, ◌∙◌, ap, subst, List, [], ◌∷◌, length, Bool, true, false, not, ◌&&◌, eqb, ltb, Some, inl, inr}
+use Rattle.std.proofs.Common.{◌≡◌, ℕ, ◌/◌, ◌≤◌, arith, sym, ◌∙◌, ap, subst, List, [], ◌∷◌, length, Bool, true, false, not, ◌&&◌, eqb, ltb, Some, inl, inr}
 use Rattle.std.specs.List.{list_all, list_any}
-use Rattle.std.proofs.lemmas.Bool.{and_parts, and_from, or_left, or_right, eqb-true, eq-eqb, le-leb, lt-ltb, ltb-true, not-true}
+use Rattle.std.proofs.lemmas.Bool.{and_parts, and_from, or_left, or_right, eqb-true, eq-eqb, lt-ltb, ltb-true, not-true}
 use Rattle.udf_model.specs.Image.{block_of, blocks_in}
 use Rattle.udf_volume_model.specs.Anchor.{places}
 use Rattle.udf_volume_model.specs.Kept.{KeptSequence, kept_sequence_of}

@@ -7,7 +7,7 @@ use Rattle.udf_volume_model.specs.Areas.{Area, area_of, areas_of, covers, is_out
 use Rattle.udf_volume_model.specs.Layout.{are_lawful}
 use Rattle.udf_volume_laws.proofs.Led.{IsLed, IsMain, IsReserve, IsRoom, rooms, limits}
 use Rattle.udf_volume_laws.proofs.Members.{IsIn}
-use Rattle.udf_volume_laws.proofs.Apart.{IsSpread, spread, covered, not_both, further_areas, far, extents_apart}
+use Rattle.udf_volume_laws.proofs.Apart.{spread, not_both, further_areas, far, extents_apart}
 
 pub record IsPair (size blocks : ℕ) (anchor : Anchor) (list : List Descriptor) (kept other : Extent) : Type 0 where
   pub kept_room : IsRoom size blocks kept

@@ -1,5 +1,5 @@
 -- The sparing tables after the mends of a volume: its layout stays, a table prevails, and over bytes the rule holds.
-use Rattle.std.proofs.Common.{◌≡◌, ℕ, zero, suc, ◌+◌, ◌^◌, ◌<◌, ◌≤◌, arith, refl, sym, ◌∙◌, ap, subst, List, ◌++◌, take, drop, true, Option, Some, None, inl, inr}
+use Rattle.std.proofs.Common.{◌≡◌, ℕ, zero, suc, ◌+◌, ◌^◌, ◌<◌, ◌≤◌, arith, sym, ◌∙◌, ap, subst, List, ◌++◌, length, take, drop, true, Option, Some, inl}
 use Rattle.std.specs.Prelude.{is_some}
 use Rattle.std.specs.List.{flat_map}
 use Rattle.udf_model.specs.Bytes.{IsBytes}
@@ -14,14 +14,18 @@ use Rattle.udf_volume_model.specs.Areas.{Area, area_of, areas_of, partition_area
 use Rattle.udf_volume_model.specs.Layout.{has_table, has_table_by}
 use Rattle.udf_volume_model.specs.Edits.{look}
 use Rattle.udf_volume_model.specs.SparingTable.{bytes_from, table_area, table_end, prevailing_area}
-use Rattle.udf_volume_model.specs.SparingRule.{table_content, deviating, table_blocks, tables_agree, tables_hold, table_edits}
+use Rattle.udf_volume_model.specs.SparingRule.{table_content, is_coverable, table_copy, copies_of, deviating, table_blocks, tables_agree, tables_hold, table_edits}
 use Rattle.udf_volume_model.specs.AllRules.{layout_in}
 use Rattle.udf_volume_model.specs.Mended.{sequence_edits, anchor_edits, edits}
 use Rattle.udf_volume_laws.proofs.Members.{IsIn}
 use Rattle.udf_volume_laws.proofs.Puts.{off, look_both}
 use Rattle.udf_volume_laws.proofs.Apart.{covered, uncovered, uncovered_by, further_area, table_further}
-use Rattle.udf_volume_laws.proofs.Prevailed.{IsPrevailing, prevails}
-use Rattle.udf_volume_laws.proofs.TableEdits.{AreListed}
+use Rattle.udf_volume_laws.proofs.Prevailed.{IsPrevailing, prevails, whole_table}
+use Rattle.udf_volume_laws.proofs.TableEdits.{AreListed, prevailing_long}
+use Rattle.udf_volume_laws.proofs.TableCopy.{copy_whole}
+use Rattle.udf_volume_laws.proofs.TablesAgain.{tables_still}
+use Rattle.std.proofs.lemmas.Bool.{leb-true}
+use Rattle.udf_model.specs.Tag.{is_whole}
 use Rattle.udf_volume_laws.proofs.TablesAfter.{kept, same_used, all_agree}
 use Rattle.udf_volume_laws.proofs.Taken.{IsOpened, Facts, facts}
 use Rattle.udf_volume_laws.proofs.Spares.{Spares, Without, With, spares, table_area_in, with_edits}
@@ -99,10 +103,26 @@ module _ (size blocks : ℕ) (disk : ℕ → List ℕ) (volume : KeptSequence) (
 
   -- over bytes each table agrees
   pub tables_after : ((n : ℕ) → IsBytes (disk n)) → tables_hold size after volume.list ≡ true
-  unfolding tables_hold
+  unfolding tables_hold is_coverable
   tables_after bytes = by_tables tables where
+    copied : (at : ℕ) (s : SparingMap) (table : List ℕ) → prevailing_area size disk s ≡ Some table → AreListed size blocks s → is_coverable table ≡ true → is_whole (table_copy at table) ≡ true
+    copied at s table found listed c =
+        let p = prevails size disk s table found in
+        copy_whole at table (prevailing_long size disk s table (omega (arith, given.large)) p (λ n l h. given.full n (omega (arith, listed.inside p.at p.listed))))
+        (crc_fits size disk s table p bytes) (leb-true _ _ c) (whole_table s.bytes p.at table p.whole).tagged
+
     by_tables : Spares size blocks disk volume.list → tables_agree size after (sparing volume.list) ≡ true
     by_tables (Without is) = ap (tables_agree size after) is
     by_tables (With s table is found listed) =
         ap (tables_agree size after) is
-        ∙ all_agree size blocks disk after s table (omega (arith, given.large)) given.small given.full listed found (table_put s table is found) (λ c. crc_fits size disk s table (prevails size disk s table found) bytes)
+        ∙ all_agree size blocks disk after s table (omega (arith, given.large)) given.small given.full listed found (table_put s table is found) (λ at c. copied at s table found listed c)
+
+  -- the edits of tables that the disk afterwards has stand there already
+  pub edits_still : ((n : ℕ) → n < blocks → length (after n) ≡ size) → (n : ℕ) → look n (table_edits size after volume.list) (after n) ≡ after n
+  unfolding table_edits look
+  edits_still full n = by_tables tables where
+    by_tables : Spares size blocks disk volume.list → look n (copies_of size after (sparing volume.list)) (after n) ≡ after n
+    by_tables (Without is) = ap (λ o. look n (copies_of size after o) (after n)) is
+    by_tables (With s table is found listed) =
+        ap (λ o. look n (copies_of size after o) (after n)) is
+        ∙ tables_still size blocks disk after s table (omega (arith, given.large)) given.small given.full listed found (table_put s table is found) full n

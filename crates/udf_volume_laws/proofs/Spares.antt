@@ -1,5 +1,5 @@
 -- The sparing tables of an opened volume, and the sectors that their edits leave.
-use Rattle.std.proofs.Common.{◌≡◌, ℕ, ◌+◌, ◌*◌, ◌<◌, ◌≤◌, arith, refl, sym, ◌∙◌, ap, subst, List, [], length, map, true, false, ◌&&◌, ltb, Option, Some, None, inl, inr, ◌⊎◌}
+use Rattle.std.proofs.Common.{◌≡◌, ℕ, ◌+◌, ◌*◌, ◌<◌, ◌≤◌, arith, refl, sym, ◌∙◌, ap, subst, List, [], length, true, ◌&&◌, ltb, Option, Some, None, inl, inr, ◌⊎◌}
 use Rattle.std.specs.Prelude.{is_some}
 use Rattle.std.specs.List.{list_all, flat_map}
 use Rattle.std.proofs.lemmas.Bool.{and_parts, leb-true, ltb-true}
@@ -11,7 +11,7 @@ use Rattle.udf_volume_model.specs.Areas.{Area, areas_of, partition_area, table_a
 use Rattle.udf_volume_model.specs.Layout.{are_apart, is_inside, are_high, is_bitmap_lawful, are_lawful, has_table, has_table_by}
 use Rattle.udf_volume_model.specs.SparingTable.{table_end, prevailing_area}
 use Rattle.udf_volume_model.specs.SparingRule.{deviating, table_blocks, copies_by, copies_of, table_edits}
-use Rattle.udf_volume_laws.proofs.Members.{IsIn, all_at, mapped_in, mapped_from}
+use Rattle.udf_volume_laws.proofs.Members.{IsIn, all_at, mapped_in}
 use Rattle.udf_volume_laws.proofs.Puts.{IsOff, AreWithin}
 use Rattle.udf_volume_laws.proofs.Apart.{IsBeside, spread, table_further, further_area}
 use Rattle.udf_volume_laws.proofs.Cut.{fewer_blocks}

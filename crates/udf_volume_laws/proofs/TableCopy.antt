@@ -1,23 +1,22 @@
 -- A copy of a sparing table says at its sector what the table says, whatever stands behind it.
-use Rattle.std.proofs.Common.{◌≡◌, ℕ, ◌+◌, ◌-◌, ◌*◌, ◌^◌, ◌<◌, ◌≤◌, arith, refl, sym, ◌∙◌, ap, subst, List, [], ◌++◌, take, drop, get_or, length, Bool, true, false, cond, ◌&&◌, leb, Option, Some, None, codes}
+use Rattle.std.proofs.Common.{◌≡◌, ℕ, ◌+◌, ◌-◌, ◌*◌, ◌^◌, ◌<◌, ◌≤◌, arith, refl, sym, ◌∙◌, ap, List, ◌++◌, take, drop, get_or, length, Bool, true, false, cond, leb, Some, codes}
 use Rattle.std.specs.Str.{bytes_eq}
-use Rattle.std.proofs.lemmas.Bool.{and_parts, and_from, leb-true, le-leb, cases_Bool}
+use Rattle.std.proofs.lemmas.Bool.{and_from, leb-true, le-leb}
 use Rattle.std.proofs.lemmas.List.{get_or-take, get_or-drop, get_or_append_left, take_at, take_all, length-take-le, length-drop, length-append}
 use Rattle.udf_model.specs.Crc.{crc_of}
 use Rattle.udf_model.specs.Tag.{is_whole, crc_length, identifier, location, id_at, is_id, relocated, retagged}
 use Rattle.udf_model.proofs.Written.{same_number}
 use Rattle.udf_model.proofs.Relocated.{relocated_length, relocated_body, relocated_identifier, relocated_location, relocated_whole, found_at}
 use Rattle.udf_model.proofs.Retagged.{retagged_length, retagged_body, retagged_identifier, retagged_location, whole_by_crc}
-use Rattle.udf_field.specs.FieldView.{entity_is}
-use Rattle.udf_volume_model.specs.SparingTable.{entry_count, table_end, is_table}
+use Rattle.udf_volume_model.specs.SparingTable.{table_end, is_table}
 use Rattle.udf_volume_model.specs.SparingRule.{table_content, agrees_with, table_copy}
 use Rattle.udf_volume_laws.proofs.Same.{bytes_same}
-use Rattle.udf_volume_laws.proofs.Says.{same_end, same_name}
-use Rattle.udf_volume_laws.proofs.Fronts.{front_crc_length, front_location, front_identifier, front_whole, whole_front}
+use Rattle.udf_volume_laws.proofs.TableContent.{same_end, same_name}
+use Rattle.udf_volume_laws.proofs.Fronts.{front_location, front_identifier, front_whole, whole_front}
 use Rattle.udf_volume_laws.proofs.Prevailed.{IsWholeTable}
 
 -- what holds of both forms of a copy holds of it
-by_form : (P : List ℕ → Type 0) (at : ℕ) (table : List ℕ)
+pub by_form : (P : List ℕ → Type 0) (at : ℕ) (table : List ℕ)
     → (leb (16 + crc_length table) (table_end table) ≡ true → P (relocated at (take (table_end table) table)))
     → (leb (16 + crc_length table) (table_end table) ≡ false → P (retagged at (table_end table - 16) (take (table_end table) table)))
     → P (table_copy at table)
@@ -54,7 +53,12 @@ module _ (at : ℕ) (table : List ℕ) (long : table_end table ≤ length table)
   copy_location : at < 2 ^ 32 → location (table_copy at table) ≡ at
   copy_location fits = by_form (λ c. location c ≡ at) at table (λ e. relocated_location at front room fits) (λ e. retagged_location at (table_end table - 16) front room fits)
 
-  -- it is whole where the CRC of what the table says fits its field
+  -- it is whole where the tag covers no more than the table says, or the CRC of that fits its field
+  pub relocated_copy : leb (16 + crc_length table) (table_end table) ≡ true → is_whole table ≡ true → is_whole (table_copy at table) ≡ true
+  relocated_copy form whole = by_form (λ c. is_whole c ≡ true) at table
+      (λ e. relocated_whole at front room (front_whole (table_end table) table (omega arith) long (leb-true _ _ e) whole))
+      (λ e. let no : true ≡ false = sym form ∙ e in absurd (cc))
+
   pub copy_whole : crc_of (table_content table) < 2 ^ 16 → table_end table ≤ 16 + 65535 → is_whole table ≡ true → is_whole (table_copy at table) ≡ true
   unfolding table_content
   copy_whole small covers whole =

@@ -1,22 +1,22 @@
 -- The listed sparing tables after their mend: the same table prevails in what it says, and over bytes each agrees with it.
-use Rattle.std.proofs.Common.{◌≡◌, ℕ, zero, suc, ◌+◌, ◌*◌, ◌^◌, ◌<◌, ◌≤◌, arith, refl, sym, ◌∙◌, ap, subst, List, [], ◌∷◌, ◌++◌, length, Bool, true, false, cond, not, ◌&&◌, leb, Option, Some, None, inl, inr, ◌⊎◌}
+use Rattle.std.proofs.Common.{◌≡◌, ℕ, ◌+◌, ◌^◌, ◌<◌, ◌≤◌, arith, refl, sym, ◌∙◌, ap, subst, List, [], ◌++◌, length, true, false, cond, not, ◌&&◌, leb, Some, inl, inr, ◌⊎◌}
 use Rattle.std.specs.Prelude.{option_map}
 use Rattle.std.specs.Str.{bytes_eq}
-use Rattle.std.specs.List.{list_all, filter, flat_map}
-use Rattle.std.proofs.lemmas.Bool.{and_parts, and_from, cases_Bool, leb-true}
-use Rattle.udf_model.specs.Crc.{crc_of}
+use Rattle.std.specs.List.{filter, flat_map}
+use Rattle.std.proofs.lemmas.Bool.{and_parts, and_from, cases_Bool}
+use Rattle.udf_model.specs.Tag.{is_whole}
 use Rattle.udf_volume_model.specs.Anchor.{blocks_for}
 use Rattle.udf_volume_model.specs.Maps.{SparingMap}
 use Rattle.udf_volume_model.specs.Areas.{used_by, table_or_none}
 use Rattle.udf_volume_model.specs.Edits.{look}
-use Rattle.udf_volume_model.specs.SparingTable.{bytes_from, table_area, table_end, is_table, sequence_number, entries, used_pairs, used_of, table_stated, prevailing_area}
+use Rattle.udf_volume_model.specs.SparingTable.{bytes_from, table_end, is_table, sequence_number, used_pairs, used_of, table_stated, prevailing_area}
 use Rattle.udf_volume_model.specs.SparingRule.{table_content, agrees_with, is_coverable, is_empty, deviating, deviating_by, tables_agree, table_copy, table_blocks}
 use Rattle.udf_volume_laws.proofs.Members.{IsIn, none_kept}
 use Rattle.udf_volume_laws.proofs.Same.{bytes_same, same_bytes}
-use Rattle.udf_volume_laws.proofs.Says.{same_sequence, same_end, same_entries}
+use Rattle.udf_volume_laws.proofs.TableContent.{same_sequence, same_end, same_entries}
 use Rattle.udf_volume_laws.proofs.Cut.{fewer_blocks}
-use Rattle.udf_volume_laws.proofs.TableCopy.{copy_whole, placed_content, placed_agrees}
-use Rattle.udf_volume_laws.proofs.TableEdits.{AreListed, prevailing_long, written_area, unwritten_area, many}
+use Rattle.udf_volume_laws.proofs.TableCopy.{placed_content, placed_agrees}
+use Rattle.udf_volume_laws.proofs.TableEdits.{AreListed, prevailing_long, new, written_bytes, written_area, unwritten_area, many}
 use Rattle.udf_volume_laws.proofs.Prevailed.{IsWholeTable, whole_table, area_at, IsPrevailing, prevails, some_prevails, some_blocks, same_prevailing}
 use Rattle.udf_volume_laws.proofs.Deviating.{IsDeviating, deviating_parts, deviates}
 
@@ -52,9 +52,9 @@ module _ (size blocks : ℕ) (disk after : ℕ → List ℕ) (s : SparingMap) (t
       unlike other d (inl e) = absurd (not_one (subst (λ (n : ℕ). IsDeviating size disk s table n) e d))
       unlike other d (inr a) = a
 
-  written : (at : ℕ) → IsDeviating size disk s table at → (rest : List ℕ) × (area_at size after s at ≡ table_copy at table ++ rest)
+  pub written : (at : ℕ) → IsDeviating size disk s table at → bytes_from after at (many size disk table some long) ≡ new size disk table some long at
   written at d =
-      written_area size disk table some long (deviating size disk s table) after s at (deviates size disk s table at d) whole.ends
+      written_bytes size disk table some long (deviating size disk s table) after s at (deviates size disk s table at d) whole.ends
       (λ n l h. full n (omega (arith, listed.inside at d.listed, fewer)))
       (λ other j. listed.apart at other d.listed (deviating_parts size disk s table other j).listed)
       (put at d.listed)
@@ -70,7 +70,7 @@ module _ (size blocks : ℕ) (disk after : ℕ → List ℕ) (s : SparingMap) (t
     by_cover (inr c) a = Uncovered c (stays at i (λ d. let e : true ≡ false = sym d.coverable ∙ c in absurd (cc)))
     by_cover (inl c) (inl a) = Agreed a (stays at i (λ d. let e : true ≡ false = sym a ∙ d.disagrees in absurd (cc)))
     by_cover (inl c) (inr a) = let d : IsDeviating size disk s table at = record { listed = i; coverable = c; disagrees = a } in
-        let w = written at d in Written d w.0 w.1
+        let w = written_area size disk table some long after s at whole.ends (written at d) in Written d w.0 w.1
 
   -- the prevailing table agrees with itself, and stays
   pub itself : area_at size after s prevailing.at ≡ table
@@ -142,10 +142,10 @@ module _ (size blocks : ℕ) (disk after : ℕ → List ℕ) (s : SparingMap) (t
       ∙ ap (λ l. record { packet = s.packet; pairs = used_pairs s.packet count l }) (same_entries kept.next table kept.content)
       ∙ sym (ap (λ o. table_or_none (option_map (used_of s.packet count) o)) found)
 
-  -- where the CRC of what the table says fits its field, each table agrees afterwards
-  pub all_agree : (is_coverable table ≡ true → crc_of (table_content table) < 2 ^ 16) → tables_agree size after (Some s) ≡ true
+  -- where its copies are whole, each table agrees afterwards
+  pub all_agree : ((at : ℕ) → is_coverable table ≡ true → is_whole (table_copy at table) ≡ true) → tables_agree size after (Some s) ≡ true
   unfolding agrees_with deviating is_coverable
-  all_agree small =
+  all_agree copied =
       ap (λ o. is_empty (deviating_by size after s o)) kept.found_next ∙ ap is_empty (none_left (cases_Bool (is_coverable kept.next)))
     where
       uncovered : is_coverable kept.next ≡ is_coverable table
@@ -157,7 +157,7 @@ module _ (size blocks : ℕ) (disk after : ℕ → List ℕ) (s : SparingMap) (t
       by_fate : (at : ℕ) → IsIn at s.tables → is_coverable kept.next ≡ true → Fate size disk after s table at → agrees_with s.bytes at (area_at size after s at) table ≡ true
       by_fate at i c (Written d rest e) =
           ap (λ l. agrees_with s.bytes at l table) e
-          ∙ placed_agrees at table long rest s.bytes prevailing.at whole (fits at i) (copy_whole at table long (small d.coverable) (leb-true _ _ d.coverable) whole.tagged)
+          ∙ placed_agrees at table long rest s.bytes prevailing.at whole (fits at i) (copied at d.coverable)
       by_fate at i c (Agreed a e) = ap (λ l. agrees_with s.bytes at l table) e ∙ a
       by_fate at i c (Uncovered u e) = let f : true ≡ false = sym c ∙ uncovered ∙ u in absurd (cc)
 

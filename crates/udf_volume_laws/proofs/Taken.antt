@@ -1,28 +1,20 @@
 -- Opened volumes: what they take of the image, and what lies outside of it.
-use Rattle.std.proofs.Common.{◌≡◌, ℕ, ◌+◌, ◌^◌, ◌<◌, ◌≤◌, arith, refl, sym, ◌∙◌, ap, subst, List, [], ◌∷◌, ◌++◌, length, map, Bool, true, false, not, ◌&&◌, leb, ltb, Option, Some, None, inl, inr, ◌⊎◌}
-use Rattle.std.specs.Prelude.{is_none, is_some}
+use Rattle.std.proofs.Common.{◌≡◌, ℕ, ◌^◌, ◌<◌, ◌≤◌, arith, refl, sym, ◌∙◌, ap, subst, List, ◌∷◌, ◌++◌, length, true, false, not, ◌&&◌, ltb, Some, inl, inr, ◌⊎◌}
+use Rattle.std.specs.Prelude.{is_none}
 use Rattle.std.specs.List.{list_all}
-use Rattle.std.proofs.lemmas.Bool.{and_parts, and_from, not_from_false, leb-true}
-use Rattle.udf_volume_model.specs.Sequence.{Descriptor}
-use Rattle.udf_volume_model.specs.Anchor.{blocks_for, places, anchor_in}
+use Rattle.std.proofs.lemmas.Bool.{and_parts, and_from, not_from_false}
+use Rattle.udf_volume_model.specs.Anchor.{places, anchor_in}
 use Rattle.udf_volume_model.specs.Kept.{KeptSequence, kept, other, kept_sequence_in}
-use Rattle.udf_volume_model.specs.Stated.{sparing}
-use Rattle.udf_volume_model.specs.Maps.{SparingMap}
-use Rattle.udf_volume_model.specs.Areas.{Area, areas_of, table_areas, covers, is_outside, used_table, layout_of, packets_of, taken}
+use Rattle.udf_volume_model.specs.Areas.{Area, areas_of, covers, is_outside, used_table, layout_of, packets_of, taken}
 use Rattle.udf_volume_model.specs.Profile.{is_profile}
-use Rattle.udf_volume_model.specs.Layout.{is_apart, are_apart, is_inside, are_high, is_bitmap_lawful, are_lawful, are_places_lawful, is_lawful, is_passed, earlier, anchor_areas, is_packet, are_packets, has_table, has_table_by, is_spared}
-use Rattle.udf_volume_model.specs.SparingTable.{prevailing_area}
-use Rattle.udf_volume_model.specs.SparingRule.{deviating, table_blocks, copies_by, copies_of, table_edits}
+use Rattle.udf_volume_model.specs.Layout.{is_apart, are_apart, is_inside, are_lawful, are_places_lawful, is_lawful, is_passed, earlier, anchor_areas, is_packet, are_packets, has_table, is_spared}
 use Rattle.udf_volume_model.specs.AllRules.{layout_in}
 use Rattle.udf_volume_model.specs.Opened.{is_opened_by}
 use Rattle.udf_volume_laws.proofs.Members.{IsIn, all_at, all_from, in_front, in_back, in_either, mapped_in, mapped_from}
-use Rattle.udf_volume_laws.proofs.Apart.{IsBeside, covered, outside_at, apart, apart_back, not_both, spread, table_further, further_area, further_areas}
+use Rattle.udf_volume_laws.proofs.Apart.{covered, outside_at, apart_back, not_both}
 use Rattle.udf_volume_laws.proofs.Places.{IsAnchor, is_anchor}
 use Rattle.udf_volume_laws.proofs.Led.{IsLed, IsMain, IsReserve, found}
 use Rattle.udf_volume_laws.proofs.Pair.{IsPair, pair}
-use Rattle.udf_volume_laws.proofs.Prevailed.{prevails, some_blocks}
-use Rattle.udf_volume_laws.proofs.Deviating.{table_areas_are, tables_apart}
-use Rattle.udf_volume_laws.proofs.TableEdits.{AreListed}
 
 abbrev pub areas_in : ℕ → KeptSequence → List Area
 areas_in size volume = areas_of size volume.anchor volume.list

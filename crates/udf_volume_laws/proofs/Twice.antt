@@ -1,5 +1,5 @@
--- Mending twice is mending once.
-use Rattle.std.proofs.Common.{◌≡◌, ℕ, ◌≤◌, refl, sym, ◌∙◌, ap, List, [], ◌++◌, length, true, false, cond, ◌&&◌, Option, Some, None, inl, inr, ◌⊎◌}
+-- Where no rule is broken, no edit is made and nothing is put.
+use Rattle.std.proofs.Common.{◌≡◌, ℕ, refl, sym, ◌∙◌, ap, List, [], ◌++◌, length, true, false, cond, ◌&&◌, Option, Some, None, inl, inr, ◌⊎◌}
 use Rattle.std.proofs.lemmas.Bool.{and_parts, cases_Bool}
 use Rattle.udf_model.specs.Tag.{relocated}
 use Rattle.udf_model.specs.Image.{block_of, blocks_in}
@@ -18,7 +18,7 @@ use Rattle.std.specs.List.{flat_map}
 use Rattle.udf_volume_model.specs.Areas.{Layout}
 use Rattle.udf_volume_laws.proofs.Puts.{chosen}
 use Rattle.udf_volume_laws.proofs.Findings.{empty_is}
-use Rattle.udf_volume_laws.proofs.Final.{opened_parts, mended_is, mended_image}
+use Rattle.udf_volume_laws.proofs.Final.{opened_parts, mended_is}
 
 -- where no rule is broken, nothing is put
 pub no_sequence_edits : (size : ℕ) (disk : ℕ → List ℕ) (volume : KeptSequence) → sequences_hold size disk volume ≡ true → sequence_edits size disk volume ≡ []

@@ -5,6 +5,7 @@ use Rattle.udf_volume_model.specs.Opened.{volume_mended}
 use Rattle.udf_volume_model.specs.Same.{IsSameOn}
 use Rattle.udf_volume_laws.proofs.Final.{blocks_are_bytes, mended_image}
 use Rattle.udf_volume_laws.proofs.Twice.{stays}
+use Rattle.udf_volume_laws.proofs.Again.{mended_twice}
 use Rattle.udf_volume_laws.proofs.Sizes.{found_stays}
 use Rattle.udf_volume_laws.proofs.Difference.{length_kept, broken_differs, no_broken_rule}
 use Rattle.udf_volume_laws.proofs.mend_law.Goals as goal
@@ -24,6 +25,9 @@ returns-clause-volume c = λ size image large a.
     let mended = volume_mended size image in
     subst (λ (o : Option KeptSequence). IsSameOn size (blocks_in size image) (block_of size image) (block_of size mended) o (kept_sequence_of size mended)) (sym m.before_volume)
     (subst (λ (o : Option KeptSequence). IsSameOn size (blocks_in size image) (block_of size image) (block_of size mended) (Some m.before_is) o) (sym m.after_volume) m.same)
+
+pub returns-clause-again : goal.returns-clause-again
+returns-clause-again c = mended_twice
 
 pub returns-clause-still : goal.returns-clause-still
 returns-clause-still c = stays

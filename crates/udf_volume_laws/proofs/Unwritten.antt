@@ -1,20 +1,18 @@
 -- What no mend writes: the partition, the used packets, the kept descriptors, and what lies past the image's blocks.
-use Rattle.std.proofs.Common.{◌≡◌, ℕ, ◌+◌, ◌<◌, ◌≤◌, arith, refl, sym, ◌∙◌, ap, List, [], ◌++◌, length, Bool, true, false, cond, leb, ltb, inl, inr, ◌⊎◌}
+use Rattle.std.proofs.Common.{◌≡◌, ℕ, ◌≤◌, arith, sym, List, [], Bool, true, false, cond, inl, inr}
 use Rattle.std.specs.List.{list_any}
 use Rattle.udf_model.specs.Tag.{relocated}
-use Rattle.udf_volume_model.specs.Anchor.{blocks_of}
-use Rattle.udf_volume_model.specs.Kept.{KeptSequence, kept, other}
-use Rattle.udf_volume_model.specs.Areas.{Area, area_of, partition_area, table_areas, covers, packets_of}
-use Rattle.udf_volume_model.specs.Layout.{is_apart, anchor_areas}
+use Rattle.udf_volume_model.specs.Kept.{KeptSequence, other}
+use Rattle.udf_volume_model.specs.Areas.{Area, area_of, partition_area, table_areas, covers}
+use Rattle.udf_volume_model.specs.Layout.{anchor_areas}
 use Rattle.udf_volume_model.specs.Opened.{sealed, is_sealed}
 use Rattle.udf_volume_model.specs.Rules.{eligible, bad_of, anchors_hold}
 use Rattle.udf_volume_model.specs.AllRules.{layout_in}
 use Rattle.udf_volume_model.specs.Mended.{anchor_edits}
 use Rattle.udf_volume_laws.proofs.Puts.{IsOff, chosen, chosen_off}
 use Rattle.udf_volume_laws.proofs.Members.{IsIn, any_passes, in_front}
-use Rattle.udf_volume_laws.proofs.Apart.{IsBeside, covered, uncovered, within_area, not_both, uncovered_by, not_eligible, spread, further_areas, further_area, partition_further, table_further}
+use Rattle.udf_volume_laws.proofs.Apart.{uncovered, within_area, not_both, uncovered_by, not_eligible, spread, further_area, partition_further, table_further}
 use Rattle.udf_volume_laws.proofs.Ascending.{ascending_within}
-use Rattle.udf_volume_laws.proofs.Pair.{IsPair}
 use Rattle.udf_volume_laws.proofs.Taken.{IsOpened, Facts, facts, areas_in, packets_in, packet_taken, packet_apart}
 use Rattle.udf_volume_laws.proofs.Spares.{spares, tables_off, all_inside}
 use Rattle.udf_volume_laws.proofs.Beside.{sequence_off, bad_parts, anchors_off_edits, untouched}
