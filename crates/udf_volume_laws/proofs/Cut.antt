@@ -2,8 +2,7 @@
 use Rattle.std.proofs.Common.{◌≡◌, ℕ, zero, suc, ◌+◌, ◌-◌, ◌*◌, ◌/◌, ◌%◌, ◌<◌, ◌≤◌, arith, refl, sym, ◌∙◌, ap, inl, inr, ◌⊎◌, List, [], ◌∷◌, ◌++◌, take, drop, length, length-append, length-drop, append_assoc}
 use Rattle.std.proofs.Math.Nat.{div-mul-le_self}
 use Rattle.std.proofs.lemmas.Nat.{div-add-mod', le-div}
-use Rattle.std.proofs.lemmas.List.{length-take-le, take-append-drop, take_at, drop_at}
-use Rattle.std.proofs.lemmas.Bool.{cases_eq}
+use Rattle.std.proofs.lemmas.List.{length-take-le, take-append-drop}
 use Rattle.udf_volume_model.specs.Anchor.{blocks_for}
 use Rattle.udf_volume_model.specs.Edits.{look}
 use Rattle.udf_volume_model.specs.SparingTable.{bytes_from}
@@ -81,20 +80,3 @@ cut_back size at (suc count) bytes disk long =
     (λ n l k. look_past n at (take size bytes) rest (disk n) (λ e. omega arith))
     ∙ cut_back size (at + 1) count (drop size bytes) disk (omega (arith, length-drop size bytes)))
     ∙ take-append-drop size bytes
-
--- the bytes of some blocks, cut again, are those blocks
-pub cut_stands : (size : ℕ) (disk : ℕ → List ℕ) (at count n : ℕ) (base : List ℕ) → ((m : ℕ) → at ≤ m → m < at + count → length (disk m) ≡ size) → at ≤ n → n < at + count
-    → look n (blocks_cut size at count (bytes_from disk at count)) base ≡ disk n
-unfolding blocks_cut bytes_from
-cut_stands size disk at zero n base full l h = absurd (omega arith)
-cut_stands size disk at (suc count) n base full l h =
-    let long : length (disk at) ≡ size = full at (omega arith) (omega arith) in
-    let rest : List ℕ = bytes_from disk (at + 1) count in
-    ap (λ b. look n ((at, b) ∷ blocks_cut size (at + 1) count (drop size (disk at ++ rest))) base) (take_at (disk at) rest size long)
-    ∙ ap (λ b. look n ((at, disk at) ∷ blocks_cut size (at + 1) count b) base) (drop_at (disk at) rest size long)
-    ∙ by_here (cut_stands size disk (at + 1) count n base (λ m j k. full m (omega arith) (omega arith))) (cases_eq n at)
-  where
-    by_here : (at + 1 ≤ n → n < at + 1 + count → look n (blocks_cut size (at + 1) count (bytes_from disk (at + 1) count)) base ≡ disk n) → (n ≡ at) ⊎ (n ≡ at → ⊥)
-        → look n ((at, disk at) ∷ blocks_cut size (at + 1) count (bytes_from disk (at + 1) count)) base ≡ disk n
-    by_here again (inl e) = look_here n at (disk at) (blocks_cut size (at + 1) count (bytes_from disk (at + 1) count)) base e ∙ ap disk (sym e)
-    by_here again (inr u) = look_past n at (disk at) (blocks_cut size (at + 1) count (bytes_from disk (at + 1) count)) base u ∙ again (omega arith) (omega arith)

@@ -6,7 +6,6 @@ use Rattle.std.specs.Str.{bytes_eq}
 use Rattle.std.proofs.lemmas.Bool.{cases_Bool, cases_lt}
 use Rattle.std.proofs.lemmas.List.{get_or-take, get_or-drop, ext_get_or}
 use Rattle.std.proofs.lemmas.Nat.{div-add-mod'}
-use Rattle.udf_model.specs.Bytes.{IsBytes}
 use Rattle.udf_model.specs.Image.{block_of, blocks_in}
 use Rattle.udf_volume_model.specs.Kept.{KeptSequence, kept_sequence_of}
 use Rattle.udf_volume_model.specs.Areas.{partition_area, covers, packets_of, layout_of}
@@ -16,7 +15,7 @@ use Rattle.udf_volume_model.specs.Mended.{edits}
 use Rattle.udf_volume_model.specs.Opened.{is_opened, volume_mended, is_volume_unbroken, difference, is_sealed}
 use Rattle.udf_volume_laws.proofs.Taken.{IsOpened}
 use Rattle.udf_volume_laws.proofs.Unwritten.{partition_stays, packets_stay, sealed_stays, past_stays}
-use Rattle.udf_volume_laws.proofs.Final.{blocks_are_bytes, opened_parts, held_of, put_disk, mended_is, mended_image}
+use Rattle.udf_volume_laws.proofs.Final.{opened_parts, held_of, put_disk, mended_is, mended_image}
 use Rattle.udf_volume_laws.proofs.Twice.{unopened, stays}
 use Rattle.udf_volume_laws.proofs.Same.{bytes_same, same_bytes}
 use Rattle.udf_volume_laws.proofs.Members.{none_kept}
@@ -91,12 +90,12 @@ length_kept size image large = by_opening (cases_Bool (is_opened size image)) wh
   by_opening (inr e) = ap length (unopened size image e)
 
 -- no difference, no broken rule
-pub no_difference : (size : ℕ) (image : List ℕ) → 512 ≤ size → IsBytes image → is_opened size image ≡ true → difference size image (volume_mended size image) ≡ [] → is_volume_unbroken size image ≡ true
-no_difference size image large bytes a none =
+pub no_difference : (size : ℕ) (image : List ℕ) → 512 ≤ size → is_opened size image ≡ true → difference size image (volume_mended size image) ≡ [] → is_volume_unbroken size image ≡ true
+no_difference size image large a none =
     let m = mended_image size image large a in
     let same : volume_mended size image ≡ image = same_image size (volume_mended size image) image (omega arith) m.length_stays
     (fun_ext (λ n. by_order n (cases_lt n (blocks_in size image)))) in
-    ap (is_volume_unbroken size) (sym same) ∙ m.rules (blocks_are_bytes size image bytes) where
+    ap (is_volume_unbroken size) (sym same) ∙ m.rules where
       by_order : (n : ℕ) → (n < blocks_in size image) ⊎ (blocks_in size image ≤ n) → block_of size (volume_mended size image) n ≡ block_of size image n
       by_order n (inl below) = sym (no_difference_block size image (volume_mended size image) n none below)
       by_order n (inr past) = past_kept size image n large past
@@ -111,6 +110,6 @@ some_left : (xs : List ℕ) → (xs ≡ [] → ⊥) → 1 ≤ length xs
 some_left [] h = absurd (h refl)
 some_left (x ∷ xs) h = omega arith
 
-pub broken_differs : (size : ℕ) (image : List ℕ) → 512 ≤ size → IsBytes image → is_opened size image ≡ true → is_volume_unbroken size image ≡ false → 1 ≤ length (difference size image (volume_mended size image))
-broken_differs size image large bytes a broken =
-    some_left _ (λ none. let f : true ≡ false = sym (no_difference size image large bytes a none) ∙ broken in cc)
+pub broken_differs : (size : ℕ) (image : List ℕ) → 512 ≤ size → is_opened size image ≡ true → is_volume_unbroken size image ≡ false → 1 ≤ length (difference size image (volume_mended size image))
+broken_differs size image large a broken =
+    some_left _ (λ none. let f : true ≡ false = sym (no_difference size image large a none) ∙ broken in cc)

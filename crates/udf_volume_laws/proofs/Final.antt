@@ -4,9 +4,7 @@ use mathlib.Core.Path.{fun_ext}
 use Rattle.std.proofs.lemmas.Bool.{ltb-true, lt-ltb, and_parts, and_from}
 use Rattle.std.proofs.lemmas.List.{length-take-le, length-drop}
 use Rattle.udf_model.specs.Tag.{relocated}
-use Rattle.udf_model.specs.Bytes.{IsBytes}
 use Rattle.udf_model.specs.Image.{block_of, blocks_in}
-use Rattle.udf_model.proofs.Parts.{take_is_bytes, drop_is_bytes}
 use Rattle.udf_volume_model.specs.Kept.{KeptSequence, kept, other, kept_sequence_of, limit_of}
 use Rattle.udf_volume_model.specs.Rules.{eligible, bad_of, anchors_hold, sequences_hold}
 use Rattle.udf_volume_model.specs.SparingRule.{table_edits}
@@ -31,10 +29,6 @@ unfolding block_of
 block_length size image n h =
     let ends : n * size + size ≤ length image = block_ends size (length image) n h in
     length-take-le size (drop (n * size) image) (omega (arith, length-drop (n * size) image))
-
-pub blocks_are_bytes : (size : ℕ) (image : List ℕ) → IsBytes image → (n : ℕ) → IsBytes (block_of size image n)
-unfolding block_of
-blocks_are_bytes size image bytes n = take_is_bytes size (drop (n * size) image) (drop_is_bytes (n * size) image bytes)
 
 pub opened_parts : (size : ℕ) (image : List ℕ) → is_opened size image ≡ true
     → (blocks_in size image < 2 ^ 32)
@@ -148,14 +142,12 @@ module _ (size : ℕ) (image : List ℕ) (volume : KeptSequence)
 pub record IsMendedImage (size : ℕ) (image after : List ℕ) : Type 0 where
   pub length_stays : length after ≡ length image
   pub opened : is_opened size after ≡ true
-  pub rules : ((n : ℕ) → IsBytes (block_of size image n)) → is_volume_unbroken size after ≡ true
+  pub rules : is_volume_unbroken size after ≡ true
   pub before_is : KeptSequence
   pub after_is : KeptSequence
   pub before_volume : kept_sequence_of size image ≡ Some before_is
   pub after_volume : kept_sequence_of size after ≡ Some after_is
   pub same : IsSame size (blocks_in size image) (block_of size image) (block_of size after) before_is after_is
-  pub anchors : anchors_hold (blocks_in size after) (layout_in size (block_of size after) after_is) (block_of size after) after_is ≡ true
-  pub sequences : sequences_hold size (block_of size after) after_is ≡ true
 
 finish : (size : ℕ) (image : List ℕ) (before : KeptSequence) (after : List ℕ) (next : KeptSequence) → kept_sequence_of size image ≡ Some before → length after ≡ length image → blocks_in size after < 2 ^ 32
     → blocks_in size after ≡ blocks_in size image
@@ -164,7 +156,7 @@ unfolding kept_sequence_of is_opened is_volume_unbroken rules_hold
 finish size image before after next is long few count m = record {
   length_stays = long;
   opened = and_from _ _ (lt-ltb _ _ few) (ap (is_opened_by size (blocks_in size after) (block_of size after)) m.is ∙ m.opened);
-  rules = λ bytes. ap (is_volume_unbroken_by size after) m.is ∙ and_from _ _ m.anchors (and_from _ _ m.sequences (m.tables bytes));
+  rules = ap (is_volume_unbroken_by size after) m.is ∙ and_from _ _ m.anchors (and_from _ _ m.sequences m.tables);
   before_is = before;
   after_is = next;
   before_volume = is;
@@ -176,8 +168,6 @@ finish size image before after next is long few count m = record {
     place = subst (λ (blocks : ℕ). StandsEarlier blocks before.place next.place) count m.place;
     which = m.which;
   };
-  anchors = m.anchors;
-  sequences = m.sequences;
 }
 
 pub mended_is : (size : ℕ) (image : List ℕ) (volume : KeptSequence) → is_opened size image ≡ true → kept_sequence_of size image ≡ Some volume

@@ -3,7 +3,6 @@ use Rattle.std.proofs.Common.{◌≡◌, ℕ, refl, sym, ◌∙◌, ap, subst, L
 use Rattle.std.proofs.lemmas.Bool.{and_parts, and_from, le-leb, or_right, eq-eqb, ne_eqb, eqb-true, cases_Bool, cases_eq}
 use Rattle.std.specs.Prelude.{is_none}
 use Rattle.std.specs.List.{list_all, list_any, filter}
-use Rattle.udf_model.specs.Bytes.{IsBytes}
 use Rattle.udf_volume_model.specs.Anchor.{places, anchor_in}
 use Rattle.udf_volume_model.specs.Kept.{KeptSequence, Main, led_from, kept_sequence_in, or_else}
 use Rattle.udf_volume_model.specs.Areas.{is_outside, layout_of, packets_of}
@@ -37,7 +36,7 @@ pub record IsMended (size blocks : ℕ) (disk : ℕ → List ℕ) (before after 
   pub opened : is_opened_by size blocks next (Some after) ≡ true
   pub anchors : anchors_hold blocks (layout_in size next after) next after ≡ true
   pub sequences : sequences_hold size next after ≡ true
-  pub tables : ((n : ℕ) → IsBytes (disk n)) → tables_hold size next after.list ≡ true
+  pub tables : tables_hold size next after.list ≡ true
 
 module _ (size blocks : ℕ) (disk : ℕ → List ℕ) (volume : KeptSequence) (given : IsOpened size blocks disk volume) where
   abbrev after : ℕ → List ℕ

@@ -10,8 +10,6 @@ pub mod Cut
 pub mod TableCopy
 pub mod TableEdits
 pub mod TablesAfter
-pub mod Unfit
-pub mod TablesAgain
 pub mod Taken
 pub mod Spares
 pub mod Findings
@@ -39,4 +37,3 @@ pub mod Difference
 pub mod OnePlan
 pub mod Applied
 pub mod Others
-pub mod Again

@@ -143,15 +143,3 @@ any_passes {X = X} test (x ∷ xs) e = by_test (any_passes test xs) (or_cases (t
   by_test : (list_any test xs ≡ true → (y : X) × IsIn y xs × (test y ≡ true)) → (test x ≡ true) ⊎ (list_any test xs ≡ true) → (y : X) × IsIn y (x ∷ xs) × (test y ≡ true)
   by_test rest (inl t) = (x, inl refl, t)
   by_test rest (inr t) = let r = rest t in (r.0, inr r.1, r.2)
-
--- the first that passes a test is the first that passes a stricter one, where it does
-pub find_stricter : {X : Type 0} (test next : X → Bool) (xs : List X) (x : X) → ((y : X) → IsIn y xs → next y ≡ true → test y ≡ true)
-    → find test xs ≡ Some x → next x ≡ true → find next xs ≡ Some x
-find_stricter test next [] x h e t = absurd (cc)
-find_stricter {X = X} test next (y ∷ xs) x h e t = by_test (find_stricter test next xs x (λ z i. h z (inr i))) (test y) refl (next y) refl e where
-  by_test : (find test xs ≡ Some x → next x ≡ true → find next xs ≡ Some x) → (a : Bool) → test y ≡ a → (b : Bool) → next y ≡ b
-      → cond a (Some y) (find test xs) ≡ Some x → cond b (Some y) (find next xs) ≡ Some x
-  by_test rest true p true q f = f
-  by_test rest true p false q f = let is : y ≡ x = cc in let no : true ≡ false = sym t ∙ ap next (sym is) ∙ q in absurd (cc)
-  by_test rest false p true q f = let no : true ≡ false = sym (h y (inl refl) q) ∙ p in absurd (cc)
-  by_test rest false p false q f = rest f t

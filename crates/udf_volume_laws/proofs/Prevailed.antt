@@ -8,7 +8,7 @@ use Rattle.udf_field.specs.FieldView.{entity_is}
 use Rattle.udf_volume_model.specs.Anchor.{blocks_for}
 use Rattle.udf_volume_model.specs.Maps.{SparingMap}
 use Rattle.udf_volume_model.specs.SparingTable.{bytes_from, table_area, table_end, is_table, table_number, sequence_number, at_most, is_top, is_highest, prevailing_table, listed_area, listed_number, prevailing_area}
-use Rattle.udf_volume_laws.proofs.Members.{IsIn, all_at, all_from, in_range, range_in, at_index, index_of, find_passes, find_some, find_stricter, same_find, same_all}
+use Rattle.udf_volume_laws.proofs.Members.{IsIn, all_at, all_from, in_range, range_in, at_index, index_of, find_passes, find_some, same_find, same_all}
 
 -- what a whole table is
 pub record IsWholeTable (bytes at : ℕ) (area : List ℕ) : Type 0 where
@@ -189,66 +189,3 @@ module _ (size : ℕ) (disk other : ℕ → List ℕ) (s : SparingMap) (same : (
       ap (option_map (listed_area size disk s))
       (same_find (is_highest (listed_number size disk s) (length s.tables)) (is_highest (listed_number size other s) (length s.tables)) (range_with_len 0 (length s.tables)) same_highest)
       ∙ same_listed (find (is_highest (listed_number size other s) (length s.tables)) (range_with_len 0 (length s.tables))) refl
-
-more : (o : Option ℕ) (n m : ℕ) → n ≤ m → at_most o n ≡ true → at_most o m ≡ true
-more None n m le h = refl
-more (Some k) n m le h = let less : k ≤ n = leb-true _ _ h in le-leb _ _ (omega arith)
-
--- a table prevails as long as it stays, and no other becomes whole
-module _ (size : ℕ) (disk after : ℕ → List ℕ) (s : SparingMap) (table : List ℕ)
-    (whole_before : (at : ℕ) → IsIn at s.tables → is_table s.bytes at (area_at size after s at) ≡ true → area_at size after s at ≡ area_at size disk s at)
-    (stays : (at : ℕ) → IsIn at s.tables → area_at size disk s at ≡ table → is_table s.bytes at table ≡ true → area_at size after s at ≡ table) where
-  abbrev count : ℕ
-  count = length s.tables
-
-  abbrev before : ℕ → Option ℕ
-  before k = listed_number size disk s k
-
-  abbrev next : ℕ → Option ℕ
-  next k = listed_number size after s k
-
-  from_next : (k m : ℕ) → k < count → next k ≡ Some m → before k ≡ Some m
-  from_next k m h e =
-      let at : ℕ = get_or s.tables k 0 in
-      let w = number_whole s.bytes at (listed_area size after s k) m e in
-      ap (table_number s.bytes at) (sym (whole_before at (at_index s.tables k h) w.0)) ∙ e
-
-  at_most_next : (k n : ℕ) → k < count → at_most (before k) n ≡ true → (o : Option ℕ) → next k ≡ o → at_most o n ≡ true
-  at_most_next k n h m None e = refl
-  at_most_next k n h m (Some j) e = ap (λ o. at_most o n) (sym (from_next k j h e)) ∙ m
-
-  module _ (i : ℕ) (inside : i < count) (passes : is_highest before count i ≡ true) (is : listed_area size disk s i ≡ table) where
-    top : IsHighest before count i
-    top = highest_is before count i passes
-
-    stays_here : listed_area size after s i ≡ table
-    stays_here =
-        stays (get_or s.tables i 0) (at_index s.tables i inside) is
-        (ap (is_table s.bytes (get_or s.tables i 0)) (sym is) ∙ (number_whole s.bytes (get_or s.tables i 0) (listed_area size disk s i) top.number top.whole).0)
-
-    next_here : next i ≡ Some top.number
-    next_here = ap (table_number s.bytes (get_or s.tables i 0)) (stays_here ∙ sym is) ∙ top.whole
-
-    next_passes : is_highest next count i ≡ true
-    next_passes = is_the_highest next count i top.number next_here (λ k h. at_most_next k top.number h (top.highest k h) (next k) refl)
-
-    stricter : (k : ℕ) → IsIn k (range_with_len 0 count) → is_highest next count k ≡ true → is_highest before count k ≡ true
-    stricter k j p =
-        let above = highest_is next count k p in
-        let low : k < count = omega (arith, (range_in count 0 k j).1) in
-        let most : top.number ≤ above.number = most_of (next i) top.number above.number next_here (above.highest i inside) in
-        is_the_highest before count k above.number (from_next k above.number low above.whole) (λ m h. more (before m) top.number above.number most (top.highest m h))
-
-  pub prevails_still : prevailing_area size disk s ≡ Some table → prevailing_area size after s ≡ Some table
-  unfolding prevailing_area prevailing_table
-  prevails_still = by_found (find (is_highest before count) (range_with_len 0 count)) refl where
-    by_found : (o : Option ℕ) → find (is_highest before count) (range_with_len 0 count) ≡ o → option_map (listed_area size disk s) o ≡ Some table
-        → option_map (listed_area size after s) (find (is_highest next count) (range_with_len 0 count)) ≡ Some table
-    by_found None f e = absurd (cc)
-    by_found (Some i) f e =
-        let found = find_passes (is_highest before count) (range_with_len 0 count) i f in
-        let low : i < count = omega (arith, (range_in count 0 i found.0).1) in
-        let is : listed_area size disk s i ≡ table = cc in
-        ap (option_map (listed_area size after s))
-        (find_stricter (is_highest before count) (is_highest next count) (range_with_len 0 count) i (stricter i low found.1 is) f (next_passes i low found.1 is))
-        ∙ ap (λ (l : List ℕ). Some l) (stays_here i low found.1 is)

@@ -1,11 +1,7 @@
--- The sparing tables after the mends of a volume: its layout stays, a table prevails, and over bytes the rule holds.
-use Rattle.std.proofs.Common.{◌≡◌, ℕ, zero, suc, ◌+◌, ◌^◌, ◌<◌, ◌≤◌, arith, sym, ◌∙◌, ap, subst, List, ◌++◌, length, take, drop, true, Option, Some, inl}
+-- The sparing tables after the mends of a volume: its layout stays, a table prevails, and the rule holds.
+use Rattle.std.proofs.Common.{◌≡◌, ℕ, ◌+◌, ◌<◌, ◌≤◌, arith, sym, ◌∙◌, ap, List, ◌++◌, true, Option, Some, inl}
 use Rattle.std.specs.Prelude.{is_some}
 use Rattle.std.specs.List.{flat_map}
-use Rattle.udf_model.specs.Bytes.{IsBytes}
-use Rattle.udf_model.specs.Crc.{crc_of}
-use Rattle.udf_model.proofs.Parts.{append_is_bytes, take_is_bytes, drop_is_bytes}
-use Rattle.udf_model.proofs.Remainder.{is_crc}
 use Rattle.udf_volume_model.specs.Anchor.{blocks_for}
 use Rattle.udf_volume_model.specs.Kept.{KeptSequence, other}
 use Rattle.udf_volume_model.specs.Stated.{sparing}
@@ -13,37 +9,18 @@ use Rattle.udf_volume_model.specs.Maps.{SparingMap}
 use Rattle.udf_volume_model.specs.Areas.{Area, area_of, areas_of, partition_area, used_by, used_table, layout_of}
 use Rattle.udf_volume_model.specs.Layout.{has_table, has_table_by}
 use Rattle.udf_volume_model.specs.Edits.{look}
-use Rattle.udf_volume_model.specs.SparingTable.{bytes_from, table_area, table_end, prevailing_area}
-use Rattle.udf_volume_model.specs.SparingRule.{table_content, is_coverable, table_copy, copies_of, deviating, table_blocks, tables_agree, tables_hold, table_edits}
+use Rattle.udf_volume_model.specs.SparingTable.{prevailing_area}
+use Rattle.udf_volume_model.specs.SparingRule.{deviating, table_blocks, tables_agree, tables_hold, table_edits}
 use Rattle.udf_volume_model.specs.AllRules.{layout_in}
 use Rattle.udf_volume_model.specs.Mended.{sequence_edits, anchor_edits, edits}
 use Rattle.udf_volume_laws.proofs.Members.{IsIn}
 use Rattle.udf_volume_laws.proofs.Puts.{off, look_both}
 use Rattle.udf_volume_laws.proofs.Apart.{covered, uncovered, uncovered_by, further_area, table_further}
-use Rattle.udf_volume_laws.proofs.Prevailed.{IsPrevailing, prevails, whole_table}
-use Rattle.udf_volume_laws.proofs.TableEdits.{AreListed, prevailing_long}
-use Rattle.udf_volume_laws.proofs.TableCopy.{copy_whole}
-use Rattle.udf_volume_laws.proofs.TablesAgain.{tables_still}
-use Rattle.std.proofs.lemmas.Bool.{leb-true}
-use Rattle.udf_model.specs.Tag.{is_whole}
 use Rattle.udf_volume_laws.proofs.TablesAfter.{kept, same_used, all_agree}
 use Rattle.udf_volume_laws.proofs.Taken.{IsOpened, Facts, facts}
 use Rattle.udf_volume_laws.proofs.Spares.{Spares, Without, With, spares, table_area_in, with_edits}
 use Rattle.udf_volume_laws.proofs.Beside.{sequence_off, anchors_off_edits}
 use Rattle.udf_volume_laws.proofs.After.{after as after_of, whole, volume_after, not_eligible_in}
-
--- the CRC of what a table of bytes says fits its field
-from_is_bytes : (disk : ℕ → List ℕ) (at count : ℕ) → ((n : ℕ) → IsBytes (disk n)) → IsBytes (bytes_from disk at count)
-unfolding bytes_from
-from_is_bytes disk at zero h = λ i. omega arith
-from_is_bytes disk at (suc count) h = append_is_bytes (disk at) (bytes_from disk (at + 1) count) (h at) (from_is_bytes disk (at + 1) count h)
-
-crc_fits : (size : ℕ) (disk : ℕ → List ℕ) (s : SparingMap) (table : List ℕ) → IsPrevailing size disk s table → ((n : ℕ) → IsBytes (disk n)) → crc_of (table_content table) < 2 ^ 16
-unfolding table_content table_area
-crc_fits size disk s table p bytes =
-    let all : IsBytes table = subst IsBytes (sym p.is) (from_is_bytes disk p.at (blocks_for size s.bytes) bytes) in
-    let said : IsBytes (drop 16 (take (table_end table) table)) = drop_is_bytes 16 (take (table_end table) table) (take_is_bytes (table_end table) table all) in
-    (is_crc (drop 16 (take (table_end table) table)) said).below
 
 module _ (size blocks : ℕ) (disk : ℕ → List ℕ) (volume : KeptSequence) (given : IsOpened size blocks disk volume) where
   abbrev after : ℕ → List ℕ
@@ -101,28 +78,12 @@ module _ (size blocks : ℕ) (disk : ℕ → List ℕ) (volume : KeptSequence) (
   unfolding layout_of
   layout_stays place = ap (λ t. record { areas = areas_of size volume.anchor volume.list; table = t }) used_stays
 
-  -- over bytes each table agrees
-  pub tables_after : ((n : ℕ) → IsBytes (disk n)) → tables_hold size after volume.list ≡ true
-  unfolding tables_hold is_coverable
-  tables_after bytes = by_tables tables where
-    copied : (at : ℕ) (s : SparingMap) (table : List ℕ) → prevailing_area size disk s ≡ Some table → AreListed size blocks s → is_coverable table ≡ true → is_whole (table_copy at table) ≡ true
-    copied at s table found listed c =
-        let p = prevails size disk s table found in
-        copy_whole at table (prevailing_long size disk s table (omega (arith, given.large)) p (λ n l h. given.full n (omega (arith, listed.inside p.at p.listed))))
-        (crc_fits size disk s table p bytes) (leb-true _ _ c) (whole_table s.bytes p.at table p.whole).tagged
-
+  -- each table agrees
+  pub tables_after : tables_hold size after volume.list ≡ true
+  unfolding tables_hold
+  tables_after = by_tables tables where
     by_tables : Spares size blocks disk volume.list → tables_agree size after (sparing volume.list) ≡ true
     by_tables (Without is) = ap (tables_agree size after) is
     by_tables (With s table is found listed) =
         ap (tables_agree size after) is
-        ∙ all_agree size blocks disk after s table (omega (arith, given.large)) given.small given.full listed found (table_put s table is found) (λ at c. copied at s table found listed c)
-
-  -- the edits of tables that the disk afterwards has stand there already
-  pub edits_still : ((n : ℕ) → n < blocks → length (after n) ≡ size) → (n : ℕ) → look n (table_edits size after volume.list) (after n) ≡ after n
-  unfolding table_edits look
-  edits_still full n = by_tables tables where
-    by_tables : Spares size blocks disk volume.list → look n (copies_of size after (sparing volume.list)) (after n) ≡ after n
-    by_tables (Without is) = ap (λ o. look n (copies_of size after o) (after n)) is
-    by_tables (With s table is found listed) =
-        ap (λ o. look n (copies_of size after o) (after n)) is
-        ∙ tables_still size blocks disk after s table (omega (arith, given.large)) given.small given.full listed found (table_put s table is found) full n
+        ∙ all_agree size blocks disk after s table (omega (arith, given.large)) given.small given.full listed found (table_put s table is found)

@@ -16,7 +16,7 @@ use Rattle.udf_volume_laws.proofs.Fronts.{front_location, front_identifier, fron
 use Rattle.udf_volume_laws.proofs.Prevailed.{IsWholeTable}
 
 -- what holds of both forms of a copy holds of it
-pub by_form : (P : List ℕ → Type 0) (at : ℕ) (table : List ℕ)
+by_form : (P : List ℕ → Type 0) (at : ℕ) (table : List ℕ)
     → (leb (16 + crc_length table) (table_end table) ≡ true → P (relocated at (take (table_end table) table)))
     → (leb (16 + crc_length table) (table_end table) ≡ false → P (retagged at (table_end table - 16) (take (table_end table) table)))
     → P (table_copy at table)
@@ -53,12 +53,7 @@ module _ (at : ℕ) (table : List ℕ) (long : table_end table ≤ length table)
   copy_location : at < 2 ^ 32 → location (table_copy at table) ≡ at
   copy_location fits = by_form (λ c. location c ≡ at) at table (λ e. relocated_location at front room fits) (λ e. retagged_location at (table_end table - 16) front room fits)
 
-  -- it is whole where the tag covers no more than the table says, or the CRC of that fits its field
-  pub relocated_copy : leb (16 + crc_length table) (table_end table) ≡ true → is_whole table ≡ true → is_whole (table_copy at table) ≡ true
-  relocated_copy form whole = by_form (λ c. is_whole c ≡ true) at table
-      (λ e. relocated_whole at front room (front_whole (table_end table) table (omega arith) long (leb-true _ _ e) whole))
-      (λ e. let no : true ≡ false = sym form ∙ e in absurd (cc))
-
+  -- it is whole where the CRC of what the table says fits its field
   pub copy_whole : crc_of (table_content table) < 2 ^ 16 → table_end table ≤ 16 + 65535 → is_whole table ≡ true → is_whole (table_copy at table) ≡ true
   unfolding table_content
   copy_whole small covers whole =

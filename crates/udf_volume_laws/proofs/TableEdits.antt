@@ -1,8 +1,8 @@
 -- Where the edits of sparing tables lie, and what stands in the areas of tables after them.
 use Rattle.std.proofs.Common.{◌≡◌, ℕ, zero, suc, ◌+◌, ◌-◌, ◌*◌, ◌<◌, ◌≤◌, arith, refl, sym, ◌∙◌, ap, List, [], ◌∷◌, ◌++◌, take, drop, length, length-append, length-drop, inl, inr, ◌⊎◌}
 use Rattle.std.specs.List.{flat_map}
-use Rattle.std.proofs.lemmas.Bool.{cases_eq, cases_lt}
-use Rattle.std.proofs.lemmas.List.{append_assoc, drop_at}
+use Rattle.std.proofs.lemmas.Bool.{cases_eq}
+use Rattle.std.proofs.lemmas.List.{append_assoc}
 use Rattle.udf_volume_model.specs.Anchor.{blocks_for}
 use Rattle.udf_volume_model.specs.Maps.{SparingMap}
 use Rattle.udf_volume_model.specs.Edits.{look}
@@ -11,7 +11,7 @@ use Rattle.udf_volume_model.specs.SparingRule.{table_copy, blocks_cut, table_blo
 use Rattle.udf_volume_laws.proofs.Members.{IsIn}
 use Rattle.udf_volume_laws.proofs.Puts.{IsOff, AreWithin, off, off_both, look_both, look_here, look_past}
 use Rattle.udf_volume_laws.proofs.Within.{both_within}
-use Rattle.udf_volume_laws.proofs.Cut.{blocks_hold, fewer_blocks, same_from, from_length, from_both, cut_off, cut_within, cut_back, cut_stands}
+use Rattle.udf_volume_laws.proofs.Cut.{blocks_hold, fewer_blocks, same_from, from_length, from_both, cut_off, cut_within, cut_back}
 use Rattle.udf_volume_laws.proofs.TableCopy.{copy_length}
 use Rattle.udf_volume_laws.proofs.Prevailed.{area_at, IsPrevailing, whole_table}
 
@@ -155,32 +155,3 @@ module _ (size : ℕ) (disk : ℕ → List ℕ) (table : List ℕ) (some : 0 < s
           → (other + blocks_for size s.bytes ≤ at) ⊎ (at + blocks_for size s.bytes ≤ other) → (n < other) ⊎ (other + many ≤ n)
       beside n l h fewer other (inl e) = inr (omega arith)
       beside n l h fewer other (inr e) = inl (omega arith)
-
--- tables that were written, written again, stand as they do
-module _ (size : ℕ) (disk after : ℕ → List ℕ) (table : List ℕ) (some : 0 < size) (long : table_end table ≤ length table) where
-  abbrev blocks : ℕ
-  blocks = blocks_for size (table_end table)
-
-  same_new : (at : ℕ) → bytes_from after at blocks ≡ new size disk table some long at
-      → table_copy at table ++ drop (table_end table) (bytes_from after at blocks) ≡ bytes_from after at blocks
-  same_new at written =
-      ap (λ l. table_copy at table ++ drop (table_end table) l) written
-      ∙ ap (λ l. table_copy at table ++ l) (drop_at (table_copy at table) (drop (table_end table) (bytes_from disk at blocks)) (table_end table) (copy_length at table long))
-      ∙ sym written
-
-  pub written_again : (tables : List ℕ) (n : ℕ) → ((at : ℕ) → IsIn at tables → bytes_from after at blocks ≡ new size disk table some long at)
-      → ((at : ℕ) → IsIn at tables → (m : ℕ) → at ≤ m → m < at + blocks → length (after m) ≡ size)
-      → look n (flat_map (table_blocks size after table) tables) (after n) ≡ after n
-  unfolding table_blocks look
-  written_again [] n written full = refl
-  written_again (at ∷ tables) n written full =
-      let bytes : List ℕ = bytes_from after at blocks in
-      look_both n (blocks_cut size at blocks (table_copy at table ++ drop (table_end table) bytes)) (flat_map (table_blocks size after table) tables) (after n)
-      ∙ ap (look n (blocks_cut size at blocks (table_copy at table ++ drop (table_end table) bytes))) (written_again tables n (λ other i. written other (inr i)) (λ other i. full other (inr i)))
-      ∙ ap (λ l. look n (blocks_cut size at blocks l) (after n)) (same_new at (written at (inl refl)))
-      ∙ by_place (cases_lt n at) (cases_lt n (at + blocks))
-    where
-      by_place : (n < at) ⊎ (at ≤ n) → (n < at + blocks) ⊎ (at + blocks ≤ n) → look n (blocks_cut size at blocks (bytes_from after at blocks)) (after n) ≡ after n
-      by_place (inl l) h = off n (blocks_cut size at blocks (bytes_from after at blocks)) (after n) (cut_off size at blocks (bytes_from after at blocks) n (inl l))
-      by_place (inr l) (inl h) = cut_stands size after at blocks n (after n) (full at (inl refl)) l h
-      by_place (inr l) (inr h) = off n (blocks_cut size at blocks (bytes_from after at blocks)) (after n) (cut_off size at blocks (bytes_from after at blocks) n (inr h))

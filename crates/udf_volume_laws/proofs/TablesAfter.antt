@@ -1,9 +1,10 @@
 -- The listed sparing tables after their mend: the same table prevails in what it says, and over bytes each agrees with it.
-use Rattle.std.proofs.Common.{◌≡◌, ℕ, ◌+◌, ◌^◌, ◌<◌, ◌≤◌, arith, refl, sym, ◌∙◌, ap, subst, List, [], ◌++◌, length, true, false, cond, not, ◌&&◌, leb, Some, inl, inr, ◌⊎◌}
+use Rattle.std.proofs.Common.{◌≡◌, ℕ, ◌+◌, ◌^◌, ◌<◌, ◌≤◌, arith, refl, sym, ◌∙◌, ap, subst, List, [], ◌++◌, length, true, false, cond, not, ◌&&◌, leb, ltb, Some, inl, inr, ◌⊎◌}
 use Rattle.std.specs.Prelude.{option_map}
 use Rattle.std.specs.Str.{bytes_eq}
 use Rattle.std.specs.List.{filter, flat_map}
-use Rattle.std.proofs.lemmas.Bool.{and_parts, and_from, cases_Bool}
+use Rattle.std.proofs.lemmas.Bool.{and_parts, and_from, cases_Bool, leb-true, ltb-true}
+use Rattle.udf_model.specs.Crc.{crc_of}
 use Rattle.udf_model.specs.Tag.{is_whole}
 use Rattle.udf_volume_model.specs.Anchor.{blocks_for}
 use Rattle.udf_volume_model.specs.Maps.{SparingMap}
@@ -15,7 +16,7 @@ use Rattle.udf_volume_laws.proofs.Members.{IsIn, none_kept}
 use Rattle.udf_volume_laws.proofs.Same.{bytes_same, same_bytes}
 use Rattle.udf_volume_laws.proofs.TableContent.{same_sequence, same_end, same_entries}
 use Rattle.udf_volume_laws.proofs.Cut.{fewer_blocks}
-use Rattle.udf_volume_laws.proofs.TableCopy.{placed_content, placed_agrees}
+use Rattle.udf_volume_laws.proofs.TableCopy.{copy_whole, placed_content, placed_agrees}
 use Rattle.udf_volume_laws.proofs.TableEdits.{AreListed, prevailing_long, new, written_bytes, written_area, unwritten_area, many}
 use Rattle.udf_volume_laws.proofs.Prevailed.{IsWholeTable, whole_table, area_at, IsPrevailing, prevails, some_prevails, some_blocks, same_prevailing}
 use Rattle.udf_volume_laws.proofs.Deviating.{IsDeviating, deviating_parts, deviates}
@@ -142,14 +143,21 @@ module _ (size blocks : ℕ) (disk after : ℕ → List ℕ) (s : SparingMap) (t
       ∙ ap (λ l. record { packet = s.packet; pairs = used_pairs s.packet count l }) (same_entries kept.next table kept.content)
       ∙ sym (ap (λ o. table_or_none (option_map (used_of s.packet count) o)) found)
 
-  -- where its copies are whole, each table agrees afterwards
-  pub all_agree : ((at : ℕ) → is_coverable table ≡ true → is_whole (table_copy at table) ≡ true) → tables_agree size after (Some s) ≡ true
+  -- each table agrees afterwards
+  pub all_agree : tables_agree size after (Some s) ≡ true
   unfolding agrees_with deviating is_coverable
-  all_agree copied =
+  all_agree =
       ap (λ o. is_empty (deviating_by size after s o)) kept.found_next ∙ ap is_empty (none_left (cases_Bool (is_coverable kept.next)))
     where
       uncovered : is_coverable kept.next ≡ is_coverable table
-      uncovered = ap (λ n. leb n (16 + 65535)) (same_end kept.next table kept.content)
+      uncovered =
+          ap (λ n. leb n (16 + 65535) && ltb (crc_of (table_content kept.next)) 65536) (same_end kept.next table kept.content)
+          ∙ ap (λ l. leb (table_end table) (16 + 65535) && ltb (crc_of l) 65536) kept.content
+
+      copied : (at : ℕ) → is_coverable table ≡ true → is_whole (table_copy at table) ≡ true
+      copied at c =
+          let parts = and_parts (leb (table_end table) (16 + 65535)) (ltb (crc_of (table_content table)) 65536) c in
+          copy_whole at table long (ltb-true _ _ parts.1) (leb-true _ _ parts.0) whole.tagged
 
       with_next : (at : ℕ) → agrees_with s.bytes at (area_at size after s at) table ≡ true → agrees_with s.bytes at (area_at size after s at) kept.next ≡ true
       with_next at a = ap (λ l. is_table s.bytes at (area_at size after s at) && bytes_eq (table_content (area_at size after s at)) l) kept.content ∙ a

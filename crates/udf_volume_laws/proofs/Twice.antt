@@ -1,5 +1,5 @@
--- Where no rule is broken, no edit is made and nothing is put.
-use Rattle.std.proofs.Common.{◌≡◌, ℕ, refl, sym, ◌∙◌, ap, List, [], ◌++◌, length, true, false, cond, ◌&&◌, Option, Some, None, inl, inr, ◌⊎◌}
+-- Mending twice is mending once.
+use Rattle.std.proofs.Common.{◌≡◌, ℕ, ◌≤◌, refl, sym, ◌∙◌, ap, List, [], ◌++◌, length, true, false, cond, ◌&&◌, Option, Some, None, inl, inr, ◌⊎◌}
 use Rattle.std.proofs.lemmas.Bool.{and_parts, cases_Bool}
 use Rattle.udf_model.specs.Tag.{relocated}
 use Rattle.udf_model.specs.Image.{block_of, blocks_in}
@@ -18,15 +18,15 @@ use Rattle.std.specs.List.{flat_map}
 use Rattle.udf_volume_model.specs.Areas.{Layout}
 use Rattle.udf_volume_laws.proofs.Puts.{chosen}
 use Rattle.udf_volume_laws.proofs.Findings.{empty_is}
-use Rattle.udf_volume_laws.proofs.Final.{opened_parts, mended_is}
+use Rattle.udf_volume_laws.proofs.Final.{opened_parts, mended_is, mended_image}
 
 -- where no rule is broken, nothing is put
-pub no_sequence_edits : (size : ℕ) (disk : ℕ → List ℕ) (volume : KeptSequence) → sequences_hold size disk volume ≡ true → sequence_edits size disk volume ≡ []
+no_sequence_edits : (size : ℕ) (disk : ℕ → List ℕ) (volume : KeptSequence) → sequences_hold size disk volume ≡ true → sequence_edits size disk volume ≡ []
 unfolding sequence_edits
 no_sequence_edits size disk volume e =
     ap (λ b. cond b [] (copies size disk (logical_block disk volume) (kept volume).start (other volume).start (length volume.list))) e
 
-pub no_anchor_edits : (blocks : ℕ) (layout : Layout) (disk : ℕ → List ℕ) (volume : KeptSequence) → anchors_hold blocks layout disk volume ≡ true
+no_anchor_edits : (blocks : ℕ) (layout : Layout) (disk : ℕ → List ℕ) (volume : KeptSequence) → anchors_hold blocks layout disk volume ≡ true
     → anchor_edits blocks layout disk volume ≡ []
 unfolding anchor_edits
 no_anchor_edits blocks layout disk volume e =
@@ -70,3 +70,10 @@ stays size image e = by_opening (cases_Bool (is_opened size image)) where
   by_opening : (is_opened size image ≡ true) ⊎ (is_opened size image ≡ false) → volume_mended size image ≡ image
   by_opening (inl a) = opened_stays size image a e
   by_opening (inr n) = unopened size image n
+
+-- mending twice is mending once
+pub mended_twice : (size : ℕ) (image : List ℕ) → 512 ≤ size → volume_mended size (volume_mended size image) ≡ volume_mended size image
+mended_twice size image large = by_opening (cases_Bool (is_opened size image)) where
+  by_opening : (is_opened size image ≡ true) ⊎ (is_opened size image ≡ false) → volume_mended size (volume_mended size image) ≡ volume_mended size image
+  by_opening (inl a) = let m = mended_image size image large a in stays size (volume_mended size image) m.rules
+  by_opening (inr n) = ap (volume_mended size) (unopened size image n)

@@ -5,7 +5,6 @@
 
 ghost use Rattle.std.specs.Prelude.{◌≡◌, ◌<◌, ◌≤◌, ℕ, List, [], Some, None, length, slice_get, true, false};
 ghost use Rattle.std.specs.List.{list_any};
-ghost use Rattle.udf_model.specs.Bytes.{IsBytes};
 ghost use Rattle.udf_model.specs.Image.{block_of, blocks_in};
 ghost use Rattle.udf_volume_model.specs.Sequence.{Descriptor};
 ghost use Rattle.udf_volume_model.specs.Prevailing.{is_of, prevailing, prevailing_index, Prevails};
@@ -61,18 +60,17 @@ pub fn edits_law()
 /// The mended image of one whose volume is opened has it opened, breaks no rule, and has the same volume, its layout and its
 /// sparing table included, whose kept anchor stands where it stood or at an earlier place and whose kept sequence is the main
 /// one; mending it again changes nothing. A broken rule makes a difference, and no broken rule none. The block size that is
-/// found in the image is found in the mended one. That no rule is broken is said of bytes: over items that are none the CRC of
-/// a sparing table may not fit its field.
+/// found in the image is found in the mended one.
 pub fn mend_law()
     ensures same_length { (size : ℕ) (image : List ℕ) → 512 ≤ size → length (volume_mended size image) ≡ length image }
     ensures opened { (size : ℕ) (image : List ℕ) → 512 ≤ size → is_opened size image ≡ true → is_opened size (volume_mended size image) ≡ true }
-    ensures unbroken { (size : ℕ) (image : List ℕ) → 512 ≤ size → IsBytes image → is_opened size image ≡ true
+    ensures unbroken { (size : ℕ) (image : List ℕ) → 512 ≤ size → is_opened size image ≡ true
         → is_volume_unbroken size (volume_mended size image) ≡ true }
     ensures volume { (size : ℕ) (image : List ℕ) → 512 ≤ size → is_opened size image ≡ true
         → IsSameVolume size image (volume_mended size image) }
     ensures again { (size : ℕ) (image : List ℕ) → 512 ≤ size → volume_mended size (volume_mended size image) ≡ volume_mended size image }
     ensures still { (size : ℕ) (image : List ℕ) → is_volume_unbroken size image ≡ true → volume_mended size image ≡ image }
-    ensures differs { (size : ℕ) (image : List ℕ) → 512 ≤ size → IsBytes image → is_opened size image ≡ true
+    ensures differs { (size : ℕ) (image : List ℕ) → 512 ≤ size → is_opened size image ≡ true
         → is_volume_unbroken size image ≡ false → 1 ≤ length (difference size image (volume_mended size image)) }
     ensures alike { (size : ℕ) (image : List ℕ) → is_volume_unbroken size image ≡ true → difference size image (volume_mended size image) ≡ [] }
     ensures size { (image : List ℕ) (size : ℕ) → found_size image ≡ Some size → is_opened size image ≡ true

@@ -3,9 +3,8 @@ use Rattle.udf_model.specs.Image.{block_of, blocks_in}
 use Rattle.udf_volume_model.specs.Kept.{KeptSequence, kept_sequence_of}
 use Rattle.udf_volume_model.specs.Opened.{volume_mended}
 use Rattle.udf_volume_model.specs.Same.{IsSameOn}
-use Rattle.udf_volume_laws.proofs.Final.{blocks_are_bytes, mended_image}
-use Rattle.udf_volume_laws.proofs.Twice.{stays}
-use Rattle.udf_volume_laws.proofs.Again.{mended_twice}
+use Rattle.udf_volume_laws.proofs.Final.{mended_image}
+use Rattle.udf_volume_laws.proofs.Twice.{stays, mended_twice}
 use Rattle.udf_volume_laws.proofs.Sizes.{found_stays}
 use Rattle.udf_volume_laws.proofs.Difference.{length_kept, broken_differs, no_broken_rule}
 use Rattle.udf_volume_laws.proofs.mend_law.Goals as goal
@@ -17,7 +16,7 @@ pub returns-clause-opened : goal.returns-clause-opened
 returns-clause-opened c = λ size image large a. (mended_image size image large a).opened
 
 pub returns-clause-unbroken : goal.returns-clause-unbroken
-returns-clause-unbroken c = λ size image large bytes a. (mended_image size image large a).rules (blocks_are_bytes size image bytes)
+returns-clause-unbroken c = λ size image large a. (mended_image size image large a).rules
 
 pub returns-clause-volume : goal.returns-clause-volume
 returns-clause-volume c = λ size image large a.
