@@ -16,11 +16,10 @@ use Rattle.udf_volume_model.specs.AllRules.{layout_in}
 use Rattle.udf_volume_model.specs.Mended.{logical_block, end_block}
 use Rattle.udf_volume_model.specs.Opened.{is_opened, volume_mended, plan_of}
 use Rattle.udf_volume_model.specs.Plans.{planned, ClimbsFrom}
-use Rattle.udf_volume_laws.proofs.Members.{IsIn, kept_in, in_kept}
+use Rattle.udf_volume_laws.proofs.Members.{IsIn, kept_in, in_kept, in_range, range_in}
 use Rattle.udf_volume_laws.proofs.Same.{bytes_same}
 use Rattle.udf_volume_laws.proofs.Difference.{past_kept}
 use Rattle.udf_volume_laws.proofs.OnePlan.{the_plan}
-use Rattle.udf_volume_laws.proofs.Applied.{in_range, range_in}
 use Rattle.udf_volume_laws.proofs.Final.{held_of}
 use Rattle.udf_volume.specs.Spans.{kept_span, other_span}
 use Rattle.udf_volume.specs.Opened.{volume_by}

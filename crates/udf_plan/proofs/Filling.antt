@@ -9,7 +9,7 @@ use Rattle.udf_volume_model.specs.Areas.{Area, covers, is_outside}
 use Rattle.udf_volume_model.specs.Layout.{is_apart, are_apart, is_inside}
 use Rattle.udf_volume_model.specs.Rules.{is_eligible, ascending_places}
 use Rattle.udf_volume_laws.proofs.Apart.{uncovered, apart as apart_of}
-use Rattle.udf_volume_laws.proofs.Findings.{Climbs, Rises, places_rise}
+use Rattle.udf_volume_laws.proofs.Rising.{Climbs, Rises, places_rise}
 use Rattle.udf_volume.specs.Areas.{area_stated, areas_stated, integrity_stated}
 use Rattle.udf_volume.specs.Laid.{areas_laid, IsLaidOut}
 use Rattle.udf_volume.specs.Spans.{span_by, opposite, kept_span, other_span}
@@ -109,6 +109,10 @@ extents_apart volume laid =
     let four = and_parts (list_all (is_apart main) others) (are_apart others) three.0 in
     (and_parts (is_apart main (area_stated volume.size volume.reserve)) _ four.0).0
 
+not_true : (b : Bool) → not b ≡ true → b ≡ false
+not_true true e = absurd (cc)
+not_true false e = refl
+
 covered_not : (area : Area) (n : ℕ) → (n < area.start) ⊎ (area.start + area.count ≤ n) → not (covers area n) ≡ true
 unfolding covers
 covered_not area n (inl l) = ap (λ b. not (b && ltb n (area.start + area.count))) (lt-leb area.start n l)
@@ -153,10 +157,10 @@ module _ (volume : Volume) (b : IsBounded volume.size volume.blocks volume)
     main = and_parts _ _ e
 
     by_which : (w : Which) → (n < (span_by w volume).start) ⊎ ((span_by w volume).start + blocks_for volume.size (span_by w volume).length ≤ n)
-    by_which Main = uncovered (area_stated volume.size volume.main) n main.0
-    by_which Reserve = uncovered (area_stated volume.size volume.reserve) n
+    by_which Main = uncovered (area_stated volume.size volume.main) n (not_true _ main.0)
+    by_which Reserve = uncovered (area_stated volume.size volume.reserve) n (not_true _
         (and_parts (not (covers (area_stated volume.size volume.reserve) n))
-        (list_all (λ area. not (covers area n)) (integrity_stated volume ++ (record { start = volume.start; count = volume.length } ∷ []))) main.1).0
+        (list_all (λ area. not (covers area n)) (integrity_stated volume ++ (record { start = volume.start; count = volume.length } ∷ []))) main.1).0)
 
   parted : (w : Which) → ((span_by w volume).start + blocks_for volume.size (span_by w volume).length ≤ (span_by (opposite w) volume).start)
       ⊎ ((span_by (opposite w) volume).start + blocks_for volume.size (span_by (opposite w) volume).length ≤ (span_by w volume).start)

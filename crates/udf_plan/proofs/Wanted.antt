@@ -14,7 +14,7 @@ use Rattle.udf_volume_model.specs.Opened.{is_opened, volume_mended}
 use Rattle.udf_volume_laws.proofs.Members.{IsIn, kept_in}
 use Rattle.udf_volume_laws.proofs.Puts.{IsOff, off, off_both, look_both, look_here, look_past, chosen, chosen_off}
 use Rattle.udf_volume_laws.proofs.Copies.{copies_below, copies_above}
-use Rattle.udf_volume_laws.proofs.Facts.{IsOpened}
+use Rattle.udf_volume_laws.proofs.Taken.{IsOpened}
 use Rattle.udf_volume_laws.proofs.After.{put_there}
 use Rattle.udf_volume_laws.proofs.Final.{held_of}
 use Rattle.udf_volume_laws.proofs.Difference.{mended_block}

@@ -1,4 +1,4 @@
--- Where the edits of anchors and sequences are not.
+-- Where the edits of anchors and sequences are not, and what stands where no edit is.
 use Rattle.std.proofs.Common.{◌≡◌, ℕ, ◌+◌, ◌<◌, ◌≤◌, arith, sym, ◌∙◌, ap, List, [], ◌++◌, length, Bool, true, false, cond, not, inl, inr, ◌⊎◌}
 use Rattle.std.specs.List.{filter}
 use Rattle.udf_model.specs.Tag.{relocated}
@@ -40,9 +40,6 @@ bad_parts size blocks disk volume n i =
     let one = kept_in (λ place. not (is_good volume.anchor place (disk place))) (filter (is_eligible (taken_in size disk volume)) (ascending_places blocks)) n i in
     let two = kept_in (is_eligible (taken_in size disk volume)) (ascending_places blocks) n one.0 in
     record { place = two.0; ruled = two.1; bad = one.1 }
-
-pub bad_place : (size blocks : ℕ) (disk : ℕ → List ℕ) (volume : KeptSequence) (n : ℕ) → IsIn n (bad_of disk volume (eligible blocks (layout_in size disk volume))) → IsIn n (ascending_places blocks)
-bad_place size blocks disk volume n i = (bad_parts size blocks disk volume n i).place
 
 pub bad_from : (size blocks : ℕ) (disk : ℕ → List ℕ) (volume : KeptSequence) (n : ℕ) → IsIn n (ascending_places blocks) → is_eligible (taken_in size disk volume) n ≡ true
     → is_good volume.anchor n (disk n) ≡ false → IsIn n (bad_of disk volume (eligible blocks (layout_in size disk volume)))

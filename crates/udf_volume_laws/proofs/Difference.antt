@@ -14,7 +14,7 @@ use Rattle.udf_volume_model.specs.Edits.{look}
 use Rattle.udf_volume_model.specs.Mended.{edits}
 use Rattle.udf_volume_model.specs.Opened.{is_opened, volume_mended, is_volume_unbroken, difference, is_sealed}
 use Rattle.udf_volume_laws.proofs.Taken.{IsOpened}
-use Rattle.udf_volume_laws.proofs.Stays.{partition_stays, packets_stay, sealed_stays, past_stays}
+use Rattle.udf_volume_laws.proofs.Unwritten.{partition_stays, packets_stay, sealed_stays, past_stays}
 use Rattle.udf_volume_laws.proofs.Final.{opened_parts, held_of, put_disk, mended_is, mended_image}
 use Rattle.udf_volume_laws.proofs.Twice.{unopened, stays}
 use Rattle.udf_volume_laws.proofs.Same.{bytes_same, same_bytes}

@@ -3,7 +3,7 @@ use Rattle.std.proofs.Common.{◌≡◌, ℕ, ◌+◌, ◌<◌, ◌≤◌, refl,
 use Rattle.std.proofs.lemmas.Bool.{and_parts, and_from, ne_eqb, eq-eqb, cases_eq}
 use Rattle.std.specs.Prelude.{is_none, is_some, option_map}
 use Rattle.std.specs.List.{list_all, filter}
-use Rattle.udf_volume_model.specs.Anchor.{Anchor, blocks_for, blocks_of, places, anchor_in}
+use Rattle.udf_volume_model.specs.Anchor.{blocks_for, blocks_of, places, anchor_in}
 use Rattle.udf_volume_model.specs.Kept.{KeptSequence, other as other_of, extent_of, opposite, limit_of, sequence_at, kept_sequence_by, kept_sequence_at, led_from, kept_sequence_in, or_else}
 use Rattle.udf_volume_model.specs.Stated.{sparing}
 use Rattle.udf_volume_model.specs.Maps.{SparingMap}
@@ -19,7 +19,7 @@ use Rattle.udf_volume_laws.proofs.Cut.{same_from}
 use Rattle.udf_volume_laws.proofs.Prevailed.{area_at, same_prevailing}
 use Rattle.udf_volume_laws.proofs.Ascending.{from_ascending}
 use Rattle.udf_volume_laws.proofs.Places.{anchor_from}
-use Rattle.udf_volume_laws.proofs.Led.{IsMain, IsReserve, leads_none, same_sequence}
+use Rattle.udf_volume_laws.proofs.Led.{IsMain, IsReserve, passed_leads_none, same_sequence}
 use Rattle.udf_volume_laws.proofs.Taken.{IsOpened, Facts, facts, areas_in, taken_in, outside_areas, passed_areas}
 use Rattle.udf_volume_laws.proofs.Spares.{table_area_in}
 
@@ -29,10 +29,6 @@ pub record AgreeOn (size blocks : ℕ) (disk other : ℕ → List ℕ) (volume :
   pub reserve : (n : ℕ) → volume.anchor.reserve.start ≤ n → n < volume.anchor.reserve.start + blocks_of size volume.anchor.reserve → disk n ≡ other n
   pub tables : (area : Area) (n : ℕ) → IsIn area (table_areas size volume.list) → covers area n ≡ true → disk n ≡ other n
   pub at_places : (n : ℕ) → IsIn n (places blocks) → is_outside (taken_in size disk volume) n ≡ true → disk n ≡ other n
-
-no_anchor : (o : Option Anchor) → is_none o ≡ true → o ≡ None
-no_anchor None e = refl
-no_anchor (Some a) e = absurd (cc)
 
 same_volume : (size : ℕ) (disk : ℕ → List ℕ) (volume : KeptSequence) → IsMain size disk volume ⊎ IsReserve size disk volume
     → kept_sequence_by volume.place volume.anchor (sequence_at size disk (limit_of size volume.anchor) volume.anchor.main) (sequence_at size disk (limit_of size volume.anchor) volume.anchor.reserve)
@@ -67,11 +63,6 @@ module _ (size blocks : ℕ) (disk other : ℕ → List ℕ) (volume : KeptSeque
       let parts = and_parts (is_outside (taken_in size disk volume) n) (is_none (anchor_in size blocks n (disk n))) e in
       and_from _ _ parts.0 (ap (λ b. is_none (anchor_in size blocks n b)) (sym (agree.at_places n i parts.0)) ∙ parts.1)
 
-  none_there : (n : ℕ) → is_passed size blocks other (taken_in size disk volume) n ≡ true → led_from size blocks other n ≡ None
-  unfolding is_passed
-  none_there n e =
-      leads_none size blocks other n (no_anchor (anchor_in size blocks n (other n)) (and_parts (is_outside (taken_in size disk volume) n) (is_none (anchor_in size blocks n (other n))) e).1)
-
   reached : (xs : List ℕ) → ((n : ℕ) → IsIn n xs → IsIn n (places blocks)) → list_all (is_passed size blocks disk (taken_in size disk volume)) (earlier volume.place xs) ≡ true
       → IsIn volume.place xs → (kept_sequence_in size blocks other xs ≡ Some volume) × (list_all (is_passed size blocks other (taken_in size disk volume)) (earlier volume.place xs) ≡ true)
   unfolding kept_sequence_in earlier
@@ -93,7 +84,7 @@ module _ (size blocks : ℕ) (disk other : ℕ → List ℕ) (volume : KeptSeque
         let parts = and_parts (is_passed size blocks disk (taken_in size disk volume) x) (list_all (is_passed size blocks disk (taken_in size disk volume)) (earlier volume.place xs)) past in
         let next = rest parts.1 later in
         let here = passed_stays x (sub x (inl refl)) parts.0 in (
-          ap (λ o. or_else o (kept_sequence_in size blocks other xs)) (none_there x here) ∙ next.0,
+          ap (λ o. or_else o (kept_sequence_in size blocks other xs)) (passed_leads_none size blocks other (taken_in size disk volume) x here) ∙ next.0,
           ap (λ b. list_all (is_passed size blocks other (taken_in size disk volume)) (cond b [] (x ∷ earlier volume.place xs))) (ne_eqb x volume.place apart) ∙ and_from _ _ here next.1,
         )
 

@@ -1,9 +1,9 @@
 -- The laws of the mends of a volume, on a disk.
-use Rattle.std.proofs.Common.{◌≡◌, ℕ, refl, sym, ◌∙◌, ap, subst, List, [], ◌∷◌, length, Bool, true, false, cond, ◌||◌, leb, eqb, Option, Some, None, inl, inr, ◌⊎◌}
+use Rattle.std.proofs.Common.{◌≡◌, ℕ, refl, sym, ◌∙◌, ap, subst, List, [], ◌∷◌, length, Bool, true, false, cond, ◌||◌, leb, eqb, Some, inl, inr, ◌⊎◌}
 use Rattle.std.proofs.lemmas.Bool.{and_parts, and_from, le-leb, or_right, eq-eqb, ne_eqb, eqb-true, cases_Bool, cases_eq}
 use Rattle.std.specs.Prelude.{is_none}
 use Rattle.std.specs.List.{list_all, list_any, filter}
-use Rattle.udf_volume_model.specs.Anchor.{Anchor, places, anchor_in}
+use Rattle.udf_volume_model.specs.Anchor.{places, anchor_in}
 use Rattle.udf_volume_model.specs.Kept.{KeptSequence, Main, led_from, kept_sequence_in, or_else}
 use Rattle.udf_volume_model.specs.Areas.{is_outside, layout_of, packets_of}
 use Rattle.udf_volume_model.specs.Layout.{are_places_lawful, is_lawful, is_passed, earlier, are_packets, is_spared}
@@ -16,7 +16,7 @@ use Rattle.udf_volume_model.specs.AllRules.{layout_in}
 use Rattle.udf_volume_laws.proofs.Members.{IsIn, all_from, any_passes, kept_in, same_filter, same_all}
 use Rattle.udf_volume_laws.proofs.Ascending.{IsHigh, places_high, to_ascending}
 use Rattle.udf_volume_laws.proofs.Places.{IsAnchor, good_from}
-use Rattle.udf_volume_laws.proofs.Led.{leads_none}
+use Rattle.udf_volume_laws.proofs.Led.{passed_leads_none}
 use Rattle.udf_volume_laws.proofs.Taken.{IsOpened, Facts, facts, areas_in, packets_in, taken_in, outside_areas, passed_areas, packets_beside}
 use Rattle.udf_volume_laws.proofs.After.{reserve_agrees, outside_stays, anchor_there, place_leads as place_leads_of, leads_after as leads_after_of, outside_of as outside_by}
 use Rattle.udf_volume_laws.proofs.Spared.{table_stays, used_stays, layout_stays, tables_after}
@@ -37,10 +37,6 @@ pub record IsMended (size blocks : ℕ) (disk : ℕ → List ℕ) (before after 
   pub anchors : anchors_hold blocks (layout_in size next after) next after ≡ true
   pub sequences : sequences_hold size next after ≡ true
   pub tables : tables_hold size next after.list ≡ true
-
-no_anchor : (o : Option Anchor) → is_none o ≡ true → o ≡ None
-no_anchor None e = refl
-no_anchor (Some a) e = absurd (cc)
 
 module _ (size blocks : ℕ) (disk : ℕ → List ℕ) (volume : KeptSequence) (given : IsOpened size blocks disk volume) where
   abbrev after : ℕ → List ℕ
@@ -77,11 +73,6 @@ module _ (size blocks : ℕ) (disk : ℕ → List ℕ) (volume : KeptSequence) (
       let parts = and_parts (is_passed size blocks disk (taken_in size disk volume) x) (list_all (is_passed size blocks disk (taken_in size disk volume)) xs) e in
       and_from _ _ (passed_stays holds x parts.0) (all_pass holds xs parts.1)
 
-  none_there : (n : ℕ) → is_passed size blocks after (taken_in size disk volume) n ≡ true → led_from size blocks after n ≡ None
-  unfolding is_passed
-  none_there n e =
-      leads_none size blocks after n (no_anchor (anchor_in size blocks n (after n)) (and_parts (is_outside (taken_in size disk volume) n) (is_none (anchor_in size blocks n (after n))) e).1)
-
   reached : (xs : List ℕ) → list_all (is_passed size blocks after (taken_in size disk volume)) (earlier volume.place xs) ≡ true → IsIn volume.place xs
       → kept_sequence_in size blocks after xs ≡ Some (volume_after volume.place)
   unfolding kept_sequence_in earlier
@@ -95,7 +86,7 @@ module _ (size blocks : ℕ) (disk : ℕ → List ℕ) (volume : KeptSequence) (
         let past : list_all (is_passed size blocks after (taken_in size disk volume)) (x ∷ earlier volume.place xs) ≡ true =
         ap (λ b. list_all (is_passed size blocks after (taken_in size disk volume)) (cond b [] (x ∷ earlier volume.place xs))) (sym (ne_eqb x volume.place apart)) ∙ e in
         let parts = and_parts (is_passed size blocks after (taken_in size disk volume) x) (list_all (is_passed size blocks after (taken_in size disk volume)) (earlier volume.place xs)) past in
-        ap (λ o. or_else o (kept_sequence_in size blocks after xs)) (none_there x parts.0) ∙ rest parts.1 later
+        ap (λ o. or_else o (kept_sequence_in size blocks after xs)) (passed_leads_none size blocks after (taken_in size disk volume) x parts.0) ∙ rest parts.1 later
 
   -- the volume is opened afterwards
   opens : (n : ℕ) → is_outside (taken_in size disk volume) n ≡ true → list_all (is_passed size blocks after (taken_in size disk volume)) (earlier n (places blocks)) ≡ true

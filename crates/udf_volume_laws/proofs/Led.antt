@@ -4,6 +4,9 @@ use Rattle.std.proofs.lemmas.Bool.{and_parts, leb-true, ltb-true}
 use Rattle.udf_volume_model.specs.Anchor.{Extent, Anchor, blocks_of, is_extent, anchor_in, names_extents}
 use Rattle.udf_volume_model.specs.Sequence.{Descriptor, view_of, views, listed}
 use Rattle.udf_volume_model.specs.Kept.{KeptSequence, Main, Reserve, is_complete, has_id, limit_of, whole_by, sequence_at, kept_sequence_by, kept_sequence_at, led_from, or_else, kept_sequence_in}
+use Rattle.std.specs.Prelude.{is_none}
+use Rattle.udf_volume_model.specs.Areas.{Area, is_outside}
+use Rattle.udf_volume_model.specs.Layout.{is_passed}
 use Rattle.udf_volume_laws.proofs.Walk.{Walks, walks, listed_as, same_said}
 use Rattle.udf_volume_laws.proofs.Members.{IsIn}
 
@@ -52,9 +55,20 @@ leads size blocks disk place anchor list a m =
     ap (kept_sequence_at size disk place) a
     ∙ ap (λ main. kept_sequence_by place anchor main (sequence_at size disk (limit_of size anchor) anchor.reserve)) m
 
-pub leads_none : (size blocks : ℕ) (disk : ℕ → List ℕ) (place : ℕ) → anchor_in size blocks place (disk place) ≡ None → led_from size blocks disk place ≡ None
+leads_none : (size blocks : ℕ) (disk : ℕ → List ℕ) (place : ℕ) → anchor_in size blocks place (disk place) ≡ None → led_from size blocks disk place ≡ None
 unfolding led_from
 leads_none size blocks disk place a = ap (kept_sequence_at size disk place) a
+
+no_anchor : (o : Option Anchor) → is_none o ≡ true → o ≡ None
+no_anchor None e = refl
+no_anchor (Some a) e = absurd (cc)
+
+-- a place that is passed leads to none
+pub passed_leads_none : (size blocks : ℕ) (disk : ℕ → List ℕ) (areas : List Area) (place : ℕ) → is_passed size blocks disk areas place ≡ true → led_from size blocks disk place ≡ None
+unfolding is_passed
+passed_leads_none size blocks disk areas place e =
+    leads_none size blocks disk place
+    (no_anchor (anchor_in size blocks place (disk place)) (and_parts (is_outside areas place) (is_none (anchor_in size blocks place (disk place))) e).1)
 
 -- the volume is that of one of the places
 pub found : (size blocks : ℕ) (disk : ℕ → List ℕ) (places : List ℕ) (volume : KeptSequence) → kept_sequence_in size blocks disk places ≡ Some volume

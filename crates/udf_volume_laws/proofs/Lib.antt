@@ -4,7 +4,7 @@ pub mod Prevail
 pub mod Rising
 pub mod Prevailed
 pub mod Deviating
-pub mod Says
+pub mod TableContent
 pub mod Fronts
 pub mod Cut
 pub mod TableCopy
@@ -25,7 +25,7 @@ pub mod Places
 pub mod Ascending
 pub mod Beside
 pub mod After
-pub mod Stays
+pub mod Unwritten
 pub mod Spared
 pub mod Law
 pub mod Frame

@@ -11,7 +11,7 @@ use Rattle.udf_model.proofs.Retagged.{retagged_length, retagged_body, retagged_i
 use Rattle.udf_volume_model.specs.SparingTable.{table_end, is_table}
 use Rattle.udf_volume_model.specs.SparingRule.{table_content, agrees_with, table_copy}
 use Rattle.udf_volume_laws.proofs.Same.{bytes_same}
-use Rattle.udf_volume_laws.proofs.Says.{same_end, same_name}
+use Rattle.udf_volume_laws.proofs.TableContent.{same_end, same_name}
 use Rattle.udf_volume_laws.proofs.Fronts.{front_location, front_identifier, front_whole, whole_front}
 use Rattle.udf_volume_laws.proofs.Prevailed.{IsWholeTable}
 

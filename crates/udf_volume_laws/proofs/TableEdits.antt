@@ -107,33 +107,38 @@ module _ (size : ℕ) (disk : ℕ → List ℕ) (table : List ℕ) (some : 0 < s
         split ∙ off n (blocks_cut size first many (new first)) (look n rest base) (cut_off size first many (new first) n a)
         ∙ again later l h (λ other k. apart other (inr k))
 
-  -- the area of a table that is written begins with the copy
-  pub written_area : (tables : List ℕ) (after : ℕ → List ℕ) (s : SparingMap) (at : ℕ) → IsIn at tables → table_end table ≤ s.bytes
+  -- the blocks of a table that is written
+  pub written_bytes : (tables : List ℕ) (after : ℕ → List ℕ) (s : SparingMap) (at : ℕ) → IsIn at tables → table_end table ≤ s.bytes
       → ((n : ℕ) → at ≤ n → n < at + many → length (disk n) ≡ size)
       → ((other : ℕ) → IsIn other tables → (other ≡ at) ⊎ ((other + blocks_for size s.bytes ≤ at) ⊎ (at + blocks_for size s.bytes ≤ other)))
       → ((n : ℕ) → at ≤ n → n < at + blocks_for size s.bytes → after n ≡ look n (flat_map (table_blocks size disk table) tables) (disk n))
-      → (rest : List ℕ) × (area_at size after s at ≡ table_copy at table ++ rest)
-  unfolding table_area
-  written_area tables after s at i fits full apart put =
+      → bytes_from after at many ≡ new at
+  written_bytes tables after s at i fits full apart put =
       let fewer : many ≤ blocks_for size s.bytes = fewer_blocks size (table_end table) s.bytes some fits in
-      let more : ℕ = blocks_for size s.bytes - many in
-      let count : blocks_for size s.bytes ≡ many + more = omega arith in
-      let first : bytes_from after at many ≡ new at =
       same_from after (λ n. look n (blocks_cut size at many (new at)) (disk n)) at many
       (λ n l h. put n l (omega arith) ∙ edits_here tables at n (disk n) i l h (λ other k. beside n l h fewer other (apart other k)))
-      ∙ cut_back size at many (new at) disk (new_length at full) in (
-        drop (table_end table) (old at) ++ bytes_from after (at + many) more,
-        ap (bytes_from after at) count
-            ∙ from_both after at many more
-            ∙ ap (λ l. l ++ bytes_from after (at + many) more) first
-            ∙ append_assoc (table_copy at table) (drop (table_end table) (old at)) (bytes_from after (at + many) more),
-      )
+      ∙ cut_back size at many (new at) disk (new_length at full)
     where
       beside : (n : ℕ) → at ≤ n → n < at + many → many ≤ blocks_for size s.bytes → (other : ℕ)
           → (other ≡ at) ⊎ ((other + blocks_for size s.bytes ≤ at) ⊎ (at + blocks_for size s.bytes ≤ other)) → (other ≡ at) ⊎ ((n < other) ⊎ (other + many ≤ n))
       beside n l h fewer other (inl e) = inl e
       beside n l h fewer other (inr (inl e)) = inr (inr (omega arith))
       beside n l h fewer other (inr (inr e)) = inr (inl (omega arith))
+
+  -- the area of such a table begins with the copy
+  pub written_area : (after : ℕ → List ℕ) (s : SparingMap) (at : ℕ) → table_end table ≤ s.bytes → bytes_from after at many ≡ new at
+      → (rest : List ℕ) × (area_at size after s at ≡ table_copy at table ++ rest)
+  unfolding table_area
+  written_area after s at fits first =
+      let fewer : many ≤ blocks_for size s.bytes = fewer_blocks size (table_end table) s.bytes some fits in
+      let more : ℕ = blocks_for size s.bytes - many in
+      let count : blocks_for size s.bytes ≡ many + more = omega arith in (
+        drop (table_end table) (old at) ++ bytes_from after (at + many) more,
+        ap (bytes_from after at) count
+            ∙ from_both after at many more
+            ∙ ap (λ l. l ++ bytes_from after (at + many) more) first
+            ∙ append_assoc (table_copy at table) (drop (table_end table) (old at)) (bytes_from after (at + many) more),
+      )
 
   -- and that of one that is not written stays
   pub unwritten_area : (tables : List ℕ) (after : ℕ → List ℕ) (s : SparingMap) (at : ℕ) → table_end table ≤ s.bytes

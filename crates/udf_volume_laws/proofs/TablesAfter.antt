@@ -1,4 +1,4 @@
--- The listed sparing tables after their mend: the same table prevails in what it says, and each agrees with it.
+-- The listed sparing tables after their mend: the same table prevails in what it says, and over bytes each agrees with it.
 use Rattle.std.proofs.Common.{◌≡◌, ℕ, ◌+◌, ◌^◌, ◌<◌, ◌≤◌, arith, refl, sym, ◌∙◌, ap, subst, List, [], ◌++◌, length, true, false, cond, not, ◌&&◌, leb, ltb, Some, inl, inr, ◌⊎◌}
 use Rattle.std.specs.Prelude.{option_map}
 use Rattle.std.specs.Str.{bytes_eq}
@@ -10,14 +10,14 @@ use Rattle.udf_volume_model.specs.Anchor.{blocks_for}
 use Rattle.udf_volume_model.specs.Maps.{SparingMap}
 use Rattle.udf_volume_model.specs.Areas.{used_by, table_or_none}
 use Rattle.udf_volume_model.specs.Edits.{look}
-use Rattle.udf_volume_model.specs.SparingTable.{table_end, is_table, sequence_number, used_pairs, used_of, table_stated, prevailing_area}
+use Rattle.udf_volume_model.specs.SparingTable.{bytes_from, table_end, is_table, sequence_number, used_pairs, used_of, table_stated, prevailing_area}
 use Rattle.udf_volume_model.specs.SparingRule.{table_content, agrees_with, is_coverable, is_empty, deviating, deviating_by, tables_agree, table_copy, table_blocks}
 use Rattle.udf_volume_laws.proofs.Members.{IsIn, none_kept}
 use Rattle.udf_volume_laws.proofs.Same.{bytes_same, same_bytes}
-use Rattle.udf_volume_laws.proofs.Says.{same_sequence, same_end, same_entries}
+use Rattle.udf_volume_laws.proofs.TableContent.{same_sequence, same_end, same_entries}
 use Rattle.udf_volume_laws.proofs.Cut.{fewer_blocks}
 use Rattle.udf_volume_laws.proofs.TableCopy.{copy_whole, placed_content, placed_agrees}
-use Rattle.udf_volume_laws.proofs.TableEdits.{AreListed, prevailing_long, written_area, unwritten_area, many}
+use Rattle.udf_volume_laws.proofs.TableEdits.{AreListed, prevailing_long, new, written_bytes, written_area, unwritten_area, many}
 use Rattle.udf_volume_laws.proofs.Prevailed.{IsWholeTable, whole_table, area_at, IsPrevailing, prevails, some_prevails, some_blocks, same_prevailing}
 use Rattle.udf_volume_laws.proofs.Deviating.{IsDeviating, deviating_parts, deviates}
 
@@ -53,9 +53,9 @@ module _ (size blocks : ℕ) (disk after : ℕ → List ℕ) (s : SparingMap) (t
       unlike other d (inl e) = absurd (not_one (subst (λ (n : ℕ). IsDeviating size disk s table n) e d))
       unlike other d (inr a) = a
 
-  written : (at : ℕ) → IsDeviating size disk s table at → (rest : List ℕ) × (area_at size after s at ≡ table_copy at table ++ rest)
+  pub written : (at : ℕ) → IsDeviating size disk s table at → bytes_from after at (many size disk table some long) ≡ new size disk table some long at
   written at d =
-      written_area size disk table some long (deviating size disk s table) after s at (deviates size disk s table at d) whole.ends
+      written_bytes size disk table some long (deviating size disk s table) after s at (deviates size disk s table at d) whole.ends
       (λ n l h. full n (omega (arith, listed.inside at d.listed, fewer)))
       (λ other j. listed.apart at other d.listed (deviating_parts size disk s table other j).listed)
       (put at d.listed)
@@ -71,7 +71,7 @@ module _ (size blocks : ℕ) (disk after : ℕ → List ℕ) (s : SparingMap) (t
     by_cover (inr c) a = Uncovered c (stays at i (λ d. let e : true ≡ false = sym d.coverable ∙ c in absurd (cc)))
     by_cover (inl c) (inl a) = Agreed a (stays at i (λ d. let e : true ≡ false = sym a ∙ d.disagrees in absurd (cc)))
     by_cover (inl c) (inr a) = let d : IsDeviating size disk s table at = record { listed = i; coverable = c; disagrees = a } in
-        let w = written at d in Written d w.0 w.1
+        let w = written_area size disk table some long after s at whole.ends (written at d) in Written d w.0 w.1
 
   -- the prevailing table agrees with itself, and stays
   pub itself : area_at size after s prevailing.at ≡ table
