@@ -9,7 +9,7 @@ use Rattle.udf_outside.proofs.Runs.{leaves_same}
 use Rattle.udf_volume_model.specs.Kept as model
 use Rattle.udf_volume_model.specs.Kept.{kept_sequence_of}
 use Rattle.udf_volume_model.specs.Rules as model_rules
-use Rattle.udf_volume_model.specs.Rules.{findings}
+use Rattle.udf_volume_model.specs.AllRules.{findings}
 use Rattle.udf_volume_model.specs.Edits.{put_blocks}
 use Rattle.udf_volume_model.specs.Plans.{IsRewrite}
 use Rattle.udf_volume_model.specs.Opened.{is_volume_unbroken, is_volume_unbroken_by, difference, plan_of}

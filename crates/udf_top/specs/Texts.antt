@@ -14,6 +14,7 @@ item_name item.BlockSize = codes "BlockSize"
 item_name item.Domain = codes "Domain"
 item_name item.Revision = codes "Revision"
 item_name item.VolumePointer = codes "VolumePointer"
+item_name item.PartitionMaps = codes "PartitionMaps"
 item_name item.Unbuilt = codes "Unbuilt"
 item_name item.SpaceTables = codes "SpaceTables"
 
@@ -22,6 +23,7 @@ name_of missing.TooLarge = codes "TooLarge"
 name_of missing.Anchor = codes "Anchor"
 name_of missing.Sequence = codes "Sequence"
 name_of missing.Layout = codes "Layout"
+name_of missing.SparingTable = codes "SparingTable"
 name_of missing.WriteProtected = codes "WriteProtected"
 name_of (missing.Profile item) = codes "Profile " ++ item_name item
 

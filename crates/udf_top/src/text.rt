@@ -19,6 +19,7 @@ fn item(item: ProfileItem) -> &'static str
         ProfileItem::Domain => "Domain",
         ProfileItem::Revision => "Revision",
         ProfileItem::VolumePointer => "VolumePointer",
+        ProfileItem::PartitionMaps => "PartitionMaps",
         ProfileItem::Unbuilt => "Unbuilt",
         ProfileItem::SpaceTables => "SpaceTables",
     }
@@ -33,6 +34,7 @@ fn add_name(text: &mut Vec<u8>, missing: Missing) -> Result<(), AllocError>
         Missing::Anchor => text.extend_from_slice(b"Anchor"),
         Missing::Sequence => text.extend_from_slice(b"Sequence"),
         Missing::Layout => text.extend_from_slice(b"Layout"),
+        Missing::SparingTable => text.extend_from_slice(b"SparingTable"),
         Missing::WriteProtected => text.extend_from_slice(b"WriteProtected"),
         Missing::Profile(profile) => {
             text.extend_from_slice(b"Profile ")?;
