@@ -2,7 +2,7 @@
 ghost use Rattle.std.specs.Prelude.{◌≡◌};
 ghost use Rattle.udf_outside.specs.Memory.{script_in};
 
-use crate::run::{Run, run_over};
+use crate::run::{calls_of, run_over};
 use crate::told::Wanted;
 use crate::trouble::Trouble;
 use std::alloc::{AllocError, Global};
@@ -14,6 +14,23 @@ const FAULT: u8 = 8;
 /// After how many bytes a write is cut: none, one, about half and all of one of the log's, or of a block of 512 bytes. A write
 /// that is shorter is whole.
 const CUTS: [u64; 9] = [0, 1, 2, 4, 9, 26, 52, 256, 512];
+
+/// What came of stops at each call.
+#[derive(Clone, Copy)]
+struct Stops {
+    /// The writes that were begun at the last of them.
+    begun: u64,
+    /// The call after which the next runs do not end in the wanted image.
+    bad: Option<u64>,
+}
+
+// Whether a run finds nothing to do.
+fn rests(alloc: Global, words: &[String], start: &MemBench) -> Result<bool, AllocError>
+    requires { (script_in start.now).calls ≡ 0 }
+{
+    let run = run_over(alloc, words, start, &Trouble::NONE)?;
+    Ok(run.status == 0 && run.writes() == 0)
+}
 
 // Whether the next run repairs what is left, and the one after it finds nothing to do.
 fn ends_wanted(
@@ -28,8 +45,7 @@ fn ends_wanted(
     if next.status > 1 || !next.left.same(&wanted.image, Role::Image) {
         return Ok(false);
     }
-    let last = run_over(alloc, words, &next.left, &Trouble::NONE)?;
-    Ok(last.status == 0 && last.writes() == 0)
+    rests(alloc, words, &next.left)
 }
 
 // Whether a run with this trouble ends with a fault, and the next ones in the wanted image.
@@ -43,13 +59,27 @@ fn recovers(
     requires { (script_in start.now).calls ≡ 0 }
 {
     let troubled = run_over(alloc, words, start, trouble)?;
-    Ok(troubled.status == FAULT && ends_wanted(alloc, words, &troubled.left, wanted)?)
+    if troubled.status != FAULT {
+        return Ok(false);
+    }
+    ends_wanted(alloc, words, &troubled.left, wanted)
 }
 
-fn calls_of(alloc: Global, words: &[String], start: &MemBench) -> Result<u64, AllocError>
+// The first call whose failure the next runs do not mend.
+fn bad_failure(
+    alloc: Global,
+    words: &[String],
+    start: &MemBench,
+    wanted: &Wanted,
+) -> Result<Option<u64>, AllocError>
     requires { (script_in start.now).calls ≡ 0 }
 {
-    Ok(run_over(alloc, words, start, &Trouble::NONE)?.calls)
+    for call in 1..=calls_of(alloc, words, start)? {
+        if !recovers(alloc, words, start, &Trouble::failing(call), wanted)? {
+            return Ok(Some(call));
+        }
+    }
+    Ok(None)
 }
 
 /// Each call fails in turn.
@@ -61,41 +91,88 @@ pub(crate) fn each_fault_told(
 ) -> Result<String, AllocError>
     requires { (script_in start.now).calls ≡ 0 }
 {
-    for call in 1..=calls_of(alloc, words, start)? {
-        if !recovers(alloc, words, start, &Trouble::failing(call), wanted)? {
-            return format!(in alloc;
-                "call {call} fails, and the next runs do not end in the wanted image"
-            );
-        }
+    match bad_failure(alloc, words, start, wanted)? {
+        Some(call) => format!(in alloc;
+            "call {call} fails, and the next runs do not end in the wanted image"
+        ),
+        None => String::from_str(
+            alloc,
+            "whichever call fails, the next run ends in the wanted image",
+        ),
     }
-    String::from_str(
-        alloc,
-        "whichever call fails, the next run ends in the wanted image",
-    )
 }
 
-// The first of the cuts after which the next runs do not end in the wanted image.
-fn bad_cut(
+// How many writes a run has begun that is stopped before the bytes of a call.
+fn writes_until(
     alloc: Global,
     words: &[String],
     start: &MemBench,
     call: u64,
     fill: u8,
-    wanted: &Wanted,
-) -> Result<Option<u64>, AllocError>
+) -> Result<u64, AllocError>
     requires { (script_in start.now).calls ≡ 0 }
 {
-    for bytes in CUTS {
-        let trouble = Trouble::stopping(call, bytes, fill);
-        if !recovers(alloc, words, start, &trouble, wanted)? {
-            return Ok(Some(bytes));
-        }
-    }
-    Ok(None)
+    Ok(run_over(alloc, words, start, &Trouble::stopping(call, 0, fill))?.writes())
 }
 
-/// The run is stopped at each call in turn, a write after each of some numbers of bytes. Before the first write a stop leaves the
-/// files as they were, and is tried at the first call alone.
+// How many of the cuts are tried at a call: each where it begins a write. Before the first write a stop leaves the files as
+// they were, and is tried at the first call alone.
+fn cuts_at(call: u64, before: u64, begun: u64) -> usize {
+    if begun > before {
+        CUTS.len()
+    } else if begun > 0 || call == 1 {
+        1
+    } else {
+        0
+    }
+}
+
+// Whether the next runs end in the wanted image after the first so many cuts of a call.
+fn recovers_from_cuts(
+    alloc: Global,
+    words: &[String],
+    start: &MemBench,
+    call: u64,
+    cuts: usize,
+    fill: u8,
+    wanted: &Wanted,
+) -> Result<bool, AllocError>
+    requires { (script_in start.now).calls ≡ 0 }
+{
+    for bytes in CUTS.iter().take(cuts) {
+        let trouble = Trouble::stopping(call, *bytes, fill);
+        if !recovers(alloc, words, start, &trouble, wanted)? {
+            return Ok(false);
+        }
+    }
+    Ok(true)
+}
+
+fn each_stop(
+    alloc: Global,
+    words: &[String],
+    start: &MemBench,
+    fill: u8,
+    wanted: &Wanted,
+) -> Result<Stops, AllocError>
+    requires { (script_in start.now).calls ≡ 0 }
+{
+    let mut begun = 0;
+    for call in 1..=calls_of(alloc, words, start)? {
+        let before = begun;
+        begun = writes_until(alloc, words, start, call, fill)?;
+        let cuts = cuts_at(call, before, begun);
+        if !recovers_from_cuts(alloc, words, start, call, cuts, fill, wanted)? {
+            return Ok(Stops {
+                begun,
+                bad: Some(call),
+            });
+        }
+    }
+    Ok(Stops { begun, bad: None })
+}
+
+/// The run is stopped at each call in turn, a write after each of some numbers of bytes.
 pub(crate) fn each_stop_told(
     alloc: Global,
     words: &[String],
@@ -105,46 +182,97 @@ pub(crate) fn each_stop_told(
 ) -> Result<String, AllocError>
     requires { (script_in start.now).calls ≡ 0 }
 {
-    let mut begun = 0;
-    for call in 1..=calls_of(alloc, words, start)? {
-        let before = begun;
-        begun = run_over(alloc, words, start, &Trouble::stopping(call, 0, fill))?.writes();
-        let trouble = Trouble::stopping(call, 0, fill);
-        let bad = if begun > before {
-            bad_cut(alloc, words, start, call, fill, wanted)?.is_some()
-        } else {
-            (begun > 0 || call == 1) && !recovers(alloc, words, start, &trouble, wanted)?
-        };
-        if bad {
-            return format!(in alloc;
-                "stopped at call {call}, and the next runs do not end in the wanted image"
-            );
-        }
+    let Stops { begun, bad } = each_stop(alloc, words, start, fill, wanted)?;
+    match bad {
+        Some(call) => format!(in alloc;
+            "stopped at call {call}, and the next runs do not end in the wanted image"
+        ),
+        None => format!(in alloc;
+            "{begun} writes, and wherever it stops the next run ends in the wanted image"
+        ),
     }
-    format!(in alloc; "{begun} writes, and wherever it stops the next run ends in the wanted image")
 }
 
-// Whether the run over what a stop left is stopped too, at each of its calls from the first write on, and mended then.
+// Whether a run with this stop ends with a fault, and the next ones in the wanted image where it began a write.
+fn recovers_from_stop(
+    alloc: Global,
+    words: &[String],
+    start: &MemBench,
+    stop: &Trouble,
+    wanted: &Wanted,
+) -> Result<bool, AllocError>
+    requires { (script_in start.now).calls ≡ 0 }
+{
+    let stopped = run_over(alloc, words, start, stop)?;
+    if stopped.status != FAULT || stopped.writes() == 0 {
+        return Ok(stopped.status == FAULT);
+    }
+    ends_wanted(alloc, words, &stopped.left, wanted)
+}
+
+// Whether the run over what a stop left is stopped too, at each of its calls, and mended then.
 fn recovers_from_each_stop(
     alloc: Global,
     words: &[String],
-    stopped: &Run,
+    left: &MemBench,
     bytes: u64,
     fill: u8,
     wanted: &Wanted,
 ) -> Result<bool, AllocError>
-    requires { (script_in stopped.now.left).calls ≡ 0 }
+    requires { (script_in left.now).calls ≡ 0 }
 {
-    for call in 1..=calls_of(alloc, words, &stopped.left)? {
-        let trouble = Trouble::stopping(call, bytes, fill);
-        let again = run_over(alloc, words, &stopped.left, &trouble)?;
-        if again.status != FAULT
-            || again.writes() > 0 && !ends_wanted(alloc, words, &again.left, wanted)?
-        {
+    for call in 1..=calls_of(alloc, words, left)? {
+        let stop = Trouble::stopping(call, bytes, fill);
+        if !recovers_from_stop(alloc, words, left, &stop, wanted)? {
             return Ok(false);
         }
     }
     Ok(true)
+}
+
+// What comes of a stop at a call, and of another one at each call of the next run where a write was begun.
+fn stop_and_another(
+    alloc: Global,
+    words: &[String],
+    start: &MemBench,
+    call: u64,
+    bytes: u64,
+    fill: u8,
+    wanted: &Wanted,
+) -> Result<Stops, AllocError>
+    requires { (script_in start.now).calls ≡ 0 }
+{
+    let stopped = run_over(alloc, words, start, &Trouble::stopping(call, bytes, fill))?;
+    let begun = stopped.writes();
+    let is_good = begun == 0
+        || recovers_from_each_stop(alloc, words, &stopped.left, bytes, fill, wanted)?;
+    Ok(Stops {
+        begun,
+        bad: if is_good { None } else { Some(call) },
+    })
+}
+
+fn each_pair_of_stops(
+    alloc: Global,
+    words: &[String],
+    start: &MemBench,
+    bytes: u64,
+    fill: u8,
+    wanted: &Wanted,
+) -> Result<Stops, AllocError>
+    requires { (script_in start.now).calls ≡ 0 }
+{
+    let mut last = Stops {
+        begun: 0,
+        bad: None,
+    };
+    for call in 1..=calls_of(alloc, words, start)? {
+        last = stop_and_another(alloc, words, start, call, bytes, fill, wanted)?;
+        if last.bad.is_some() {
+            return Ok(last);
+        }
+    }
+    Ok(last)
 }
 
 /// The run is stopped at each call from its first write on, and the next run at each of its own.
@@ -158,17 +286,13 @@ pub(crate) fn each_pair_of_stops_told(
 ) -> Result<String, AllocError>
     requires { (script_in start.now).calls ≡ 0 }
 {
-    let mut begun = 0;
-    for call in 1..=calls_of(alloc, words, start)? {
-        let stopped = run_over(alloc, words, start, &Trouble::stopping(call, bytes, fill))?;
-        begun = stopped.writes();
-        if begun > 0 && !recovers_from_each_stop(alloc, words, &stopped, bytes, fill, wanted)? {
-            return format!(in alloc;
-                "stopped twice, at call {call} at first, and the next runs do not end in the wanted image"
-            );
-        }
+    let Stops { begun, bad } = each_pair_of_stops(alloc, words, start, bytes, fill, wanted)?;
+    match bad {
+        Some(call) => format!(in alloc;
+            "stopped twice, at call {call} at first, and the next runs do not end in the wanted image"
+        ),
+        None => format!(in alloc;
+            "{begun} writes, and wherever it stops twice the next run ends in the wanted image"
+        ),
     }
-    format!(in alloc;
-        "{begun} writes, and wherever it stops twice the next run ends in the wanted image"
-    )
 }
