@@ -8,7 +8,7 @@ use crate::log::add_log;
 use crate::rounds::{rounds_told, stopped_told};
 use crate::run::bench_of;
 use crate::side::side_of;
-use crate::told::Wanted;
+use crate::trial::{Trial, Wanted};
 use crate::trouble::{cut_of, failure_of};
 use crate::volume::{size_of, volume_named};
 use crate::words::{byte, number, part, small, words_of};
@@ -145,24 +145,18 @@ fn finding_told(alloc: Global, words: &str) -> Result<String, AllocError> {
 }
 
 // Runs the tool in the way that the trouble asks for.
-fn trial_told(
-    alloc: Global,
-    words: &[String],
-    start: &MemBench,
-    trouble: &str,
-    wanted: &Wanted,
-) -> Result<String, AllocError>
+fn trial_told(trial: &Trial<'_>, start: &MemBench, trouble: &str) -> Result<String, AllocError>
     requires { (script_in start.now).calls ≡ 0 }
 {
     match part(trouble, ':', 0) {
-        "faults" => each_fault_told(alloc, words, start, wanted),
-        "stops" => each_stop_told(alloc, words, start, byte(trouble, 1), wanted),
+        "faults" => each_fault_told(trial, start),
+        "stops" => each_stop_told(trial, start, byte(trouble, 1)),
         "twice" => {
             let (bytes, fill) = (number(trouble, 1), byte(trouble, 2));
-            each_pair_of_stops_told(alloc, words, start, bytes, fill, wanted)
+            each_pair_of_stops_told(trial, start, bytes, fill)
         }
-        "stop" => stopped_told(alloc, words, start, cut_of(trouble), wanted),
-        _ => rounds_told(alloc, words, start, &failure_of(trouble), wanted),
+        "stop" => stopped_told(trial, start, cut_of(trouble)),
+        _ => rounds_told(trial, start, &failure_of(trouble)),
     }
 }
 
@@ -170,7 +164,12 @@ fn tool_told(alloc: Global, case: Case<'_>) -> Result<String, AllocError> {
     let words = words_of(alloc, case.words)?;
     let start = start_of(alloc, case)?;
     let wanted = wanted_of(alloc, case)?;
-    trial_told(alloc, &words, &start, case.trouble, &wanted)
+    let trial = Trial {
+        alloc,
+        words: &words,
+        wanted: &wanted,
+    };
+    trial_told(&trial, &start, case.trouble)
 }
 
 // What came of a case.

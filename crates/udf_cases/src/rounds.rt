@@ -3,9 +3,10 @@ ghost use Rattle.std.specs.Prelude.{◌≡◌, IfOk};
 ghost use Rattle.udf_outside.specs.Memory.{script_in};
 
 use crate::run::{Run, calls_of, run_over};
-use crate::told::{Wanted, add_run};
+use crate::told::add_run;
+use crate::trial::Trial;
 use crate::trouble::{Cut, Trouble};
-use std::alloc::{AllocError, Global};
+use std::alloc::AllocError;
 use udf_outside::MemBench;
 
 // Whether another run follows: something was repaired, or failed.
@@ -15,91 +16,69 @@ fn goes_on(run: &Run) -> bool {
 
 // A run with this trouble, told behind the text.
 fn add_round(
-    alloc: Global,
+    trial: &Trial<'_>,
     text: &mut String,
-    words: &[String],
     begun: &MemBench,
     trouble: &Trouble,
-    wanted: &Wanted,
 ) -> Result<Run, AllocError>
     requires { (script_in begun.now).calls ≡ 0 }
     ensures { IfOk result (λ run. (script_in run.left).calls ≡ 0) }
 {
-    let run = run_over(alloc, words, begun, trouble)?;
-    add_run(alloc, text, begun, &run, wanted)?;
+    let run = run_over(trial, begun, trouble)?;
+    add_run(trial, text, begun, &run)?;
     Ok(run)
 }
 
 // A run without trouble, told behind another.
-fn add_next(
-    alloc: Global,
-    text: &mut String,
-    words: &[String],
-    begun: &MemBench,
-    wanted: &Wanted,
-) -> Result<Run, AllocError>
+fn add_next(trial: &Trial<'_>, text: &mut String, begun: &MemBench) -> Result<Run, AllocError>
     requires { (script_in begun.now).calls ≡ 0 }
     ensures { IfOk result (λ run. (script_in run.left).calls ≡ 0) }
 {
     text.push_str(" / ")?;
-    add_round(alloc, text, words, begun, &Trouble::NONE, wanted)
+    add_round(trial, text, begun, &Trouble::NONE)
 }
 
 // The second run, and the third where it follows.
-fn add_later(
-    alloc: Global,
-    text: &mut String,
-    words: &[String],
-    begun: &MemBench,
-    wanted: &Wanted,
-) -> Result<(), AllocError>
+fn add_later(trial: &Trial<'_>, text: &mut String, begun: &MemBench) -> Result<(), AllocError>
     requires { (script_in begun.now).calls ≡ 0 }
 {
-    let second = add_next(alloc, text, words, begun, wanted)?;
+    let second = add_next(trial, text, begun)?;
     if goes_on(&second) {
-        add_next(alloc, text, words, &second.left, wanted)?;
+        add_next(trial, text, &second.left)?;
     }
     Ok(())
 }
 
 /// Tells a run with this trouble, and those that follow.
 pub(crate) fn rounds_told(
-    alloc: Global,
-    words: &[String],
+    trial: &Trial<'_>,
     start: &MemBench,
     trouble: &Trouble,
-    wanted: &Wanted,
 ) -> Result<String, AllocError>
     requires { (script_in start.now).calls ≡ 0 }
 {
-    let mut text = String::new(alloc);
-    let first = add_round(alloc, &mut text, words, start, trouble, wanted)?;
+    let mut text = String::new(trial.alloc);
+    let first = add_round(trial, &mut text, start, trouble)?;
     if goes_on(&first) {
-        add_later(alloc, &mut text, words, &first.left, wanted)?;
+        add_later(trial, &mut text, &first.left)?;
     }
     Ok(text)
 }
 
 // Whether a run that is stopped before the bytes of this call has begun the write of a cut.
-fn has_begun(
-    alloc: Global,
-    words: &[String],
-    start: &MemBench,
-    call: u64,
-    cut: Cut,
-) -> Result<bool, AllocError>
+fn has_begun(trial: &Trial<'_>, start: &MemBench, call: u64, cut: Cut) -> Result<bool, AllocError>
     requires { (script_in start.now).calls ≡ 0 }
 {
-    let stopped = run_over(alloc, words, start, &Trouble::stopping(call, 0, cut.fill))?;
+    let stopped = run_over(trial, start, &Trouble::stopping(call, 0, cut.fill))?;
     Ok(stopped.writes_of(cut.role) >= cut.write)
 }
 
 // The number of the call that is the write of a cut, or 0.
-fn call_of(alloc: Global, words: &[String], start: &MemBench, cut: Cut) -> Result<u64, AllocError>
+fn call_of(trial: &Trial<'_>, start: &MemBench, cut: Cut) -> Result<u64, AllocError>
     requires { (script_in start.now).calls ≡ 0 }
 {
-    for call in 1..=calls_of(alloc, words, start)? {
-        if has_begun(alloc, words, start, call, cut)? {
+    for call in 1..=calls_of(trial, start)? {
+        if has_begun(trial, start, call, cut)? {
             return Ok(call);
         }
     }
@@ -108,15 +87,13 @@ fn call_of(alloc: Global, words: &[String], start: &MemBench, cut: Cut) -> Resul
 
 /// Tells a run that is stopped inside a write, and those that follow.
 pub(crate) fn stopped_told(
-    alloc: Global,
-    words: &[String],
+    trial: &Trial<'_>,
     start: &MemBench,
     cut: Cut,
-    wanted: &Wanted,
 ) -> Result<String, AllocError>
     requires { (script_in start.now).calls ≡ 0 }
 {
-    let call = call_of(alloc, words, start, cut)?;
+    let call = call_of(trial, start, cut)?;
     let stop = Trouble::stopping(call, cut.bytes, cut.fill);
-    rounds_told(alloc, words, start, &stop, wanted)
+    rounds_told(trial, start, &stop)
 }

@@ -3,6 +3,7 @@ ghost use Rattle.std.specs.Prelude.{◌≡◌, None, IfOk};
 ghost use Rattle.udf_outside.specs.Memory.{files_in, held_in, script_in};
 ghost use Rattle.udf_outside.specs.Stops.{IsSynced};
 
+use crate::trial::Trial;
 use crate::trouble::Trouble;
 use std::alloc::{AllocError, Global};
 use udf_outside::{MemBench, MemSink, Role};
@@ -87,27 +88,27 @@ fn ended(
     })
 }
 
-/// Runs `udffsck` with these words over a copy of a bench of which no call was made.
+/// Runs `udffsck` over a copy of a bench of which no call was made.
 pub(crate) fn run_over(
-    alloc: Global,
-    words: &[String],
+    trial: &Trial<'_>,
     begun: &MemBench,
     trouble: &Trouble,
 ) -> Result<Run, AllocError>
     requires begun { (script_in begun.now).calls ≡ 0 }
     ensures left { IfOk result (λ run. (script_in run.left).calls ≡ 0) }
 {
+    let alloc = trial.alloc;
     let mut bench = troubled(alloc, begun, trouble)?;
     let mut out = MemSink::new(alloc, numbers(alloc, trouble.put)?);
-    let outcome = ran(alloc, words, &mut bench, &mut out);
+    let outcome = ran(alloc, trial.words, &mut bench, &mut out);
     ended(alloc, bench, &out, &outcome, trouble.fill)
 }
 
 /// The number of calls of a run without trouble.
-pub(crate) fn calls_of(alloc: Global, words: &[String], begun: &MemBench) -> Result<u64, AllocError>
+pub(crate) fn calls_of(trial: &Trial<'_>, begun: &MemBench) -> Result<u64, AllocError>
     requires { (script_in begun.now).calls ≡ 0 }
 {
-    Ok(run_over(alloc, words, begun, &Trouble::NONE)?.calls)
+    Ok(run_over(trial, begun, &Trouble::NONE)?.calls)
 }
 
 impl Run {

@@ -2,17 +2,9 @@
 
 use crate::log::{open, over};
 use crate::run::Run;
-use std::alloc::{AllocError, Global};
+use crate::trial::Trial;
+use std::alloc::AllocError;
 use udf_outside::{MemBench, Role};
-
-/// What the files of a run are compared with: the volume before its damages and the image that a repair is to leave, each as the
-/// image of a bench, and the closed log.
-#[derive(Drop)]
-pub(crate) struct Wanted {
-    pub volume: MemBench,
-    pub image: MemBench,
-    pub log: Vec<u8>,
-}
 
 // The printed lines, with `; ` behind each.
 fn add_lines(text: &mut String, printed: &[u8]) -> Result<(), AllocError> {
@@ -27,10 +19,10 @@ fn add_lines(text: &mut String, printed: &[u8]) -> Result<(), AllocError> {
 }
 
 // What the image is now.
-fn image_named(begun: &MemBench, run: &Run, wanted: &Wanted) -> &'static str {
-    if run.left.same(&wanted.volume, Role::Image) {
+fn image_named(trial: &Trial<'_>, begun: &MemBench, run: &Run) -> &'static str {
+    if run.left.same(&trial.wanted.volume, Role::Image) {
         "whole"
-    } else if run.left.same(&wanted.image, Role::Image) {
+    } else if run.left.same(&trial.wanted.image, Role::Image) {
         "as wanted"
     } else if run.left.same(begun, Role::Image) {
         "as it was"
@@ -56,15 +48,14 @@ fn side_named(before: &[u8], after: &[u8], log: &mut Vec<u8>) -> &'static str {
 
 // What the side file is now, and its length.
 fn add_side(
-    alloc: Global,
+    trial: &Trial<'_>,
     text: &mut String,
     begun: &MemBench,
     run: &Run,
-    wanted: &Wanted,
 ) -> Result<(), AllocError> {
-    let before = begun.copy(alloc, Role::Side)?;
-    let after = run.left.copy(alloc, Role::Side)?;
-    let mut log = over(alloc, &wanted.log, &before)?;
+    let before = begun.copy(trial.alloc, Role::Side)?;
+    let after = run.left.copy(trial.alloc, Role::Side)?;
+    let mut log = over(trial.alloc, &trial.wanted.log, &before)?;
     let side = side_named(&before, &after, &mut log);
     let bytes = after.len();
     write!(text, ", side file {side} of {bytes} bytes")
@@ -77,22 +68,21 @@ fn left_all(begun: &MemBench, run: &Run) -> bool {
 
 // What the image is now.
 fn add_image(
+    trial: &Trial<'_>,
     text: &mut String,
     begun: &MemBench,
     run: &Run,
-    wanted: &Wanted,
 ) -> Result<(), AllocError> {
-    let (image, writes) = (image_named(begun, run, wanted), run.image_writes);
+    let (image, writes) = (image_named(trial, begun, run), run.image_writes);
     write!(text, ", image {image} after {writes} writes")
 }
 
 // The state of both files, where one was written.
 fn add_files(
-    alloc: Global,
+    trial: &Trial<'_>,
     text: &mut String,
     begun: &MemBench,
     run: &Run,
-    wanted: &Wanted,
 ) -> Result<(), AllocError> {
     if run.calls == 0 {
         return text.push_str(", nothing asked");
@@ -100,8 +90,8 @@ fn add_files(
     if left_all(begun, run) {
         return text.push_str(", nothing written");
     }
-    add_image(text, begun, run, wanted)?;
-    add_side(alloc, text, begun, run, wanted)
+    add_image(trial, text, begun, run)?;
+    add_side(trial, text, begun, run)
 }
 
 // The status, and why the words were no command.
@@ -115,13 +105,12 @@ fn add_status(text: &mut String, run: &Run) -> Result<(), AllocError> {
 
 /// Appends a run in words.
 pub(crate) fn add_run(
-    alloc: Global,
+    trial: &Trial<'_>,
     text: &mut String,
     begun: &MemBench,
     run: &Run,
-    wanted: &Wanted,
 ) -> Result<(), AllocError> {
     add_lines(text, &run.printed)?;
     add_status(text, run)?;
-    add_files(alloc, text, begun, run, wanted)
+    add_files(trial, text, begun, run)
 }
