@@ -1,15 +1,15 @@
 //! A case.
-ghost use Rattle.std.specs.Prelude.{◌≡◌, IfOk};
+ghost use Rattle.std.specs.Prelude.{◌≡◌, ◌<◌, IfOk};
 ghost use Rattle.udf_outside.specs.Memory.{script_in};
 
 use crate::damage::hurt_by;
 use crate::every::{each_fault_told, each_pair_of_stops_told, each_stop_told};
-use crate::log::log_of;
-use crate::rounds::{call_of, rounds_told};
+use crate::log::add_log;
+use crate::rounds::{rounds_told, stopped_told};
 use crate::run::bench_of;
 use crate::side::side_of;
-use crate::told::Wanted;
-use crate::trouble::{Trouble, cut_of};
+use crate::trial::{Trial, Wanted};
+use crate::trouble::{cut_of, failure_of};
 use crate::volume::{size_of, volume_named};
 use crate::words::{byte, number, part, small, words_of};
 use sha2::{Digest, Sha256};
@@ -17,7 +17,7 @@ use std::alloc::{AllocError, Global};
 use udf_field::Addr;
 use udf_outside::{Access, Bench, MemBench, Role};
 use udf_top::{Finding, Place, report_line};
-use udf_volume::open_volume;
+use udf_volume::{LayerStop, Volume, open_volume};
 
 /// The columns of a line.
 #[derive(Clone, Copy)]
@@ -41,12 +41,30 @@ fn case_of(line: &str) -> Case<'_> {
     }
 }
 
+fn block_size(case: Case<'_>) -> u32
+    ensures { 0 < result }
+{
+    size_of(part(case.image, ' ', 0))
+}
+
 // The volume of a case with these damages.
 fn hurt_volume(alloc: Global, case: Case<'_>, damages: &str) -> Result<Vec<u8>, AllocError> {
     let volume = part(case.image, ' ', 0);
     let mut image = volume_named(alloc, volume)?;
     hurt_by(&mut image, size_of(volume), damages);
     Ok(image)
+}
+
+// A bench whose image is the volume with these damages, beside an empty side file.
+fn hurt_bench(alloc: Global, case: Case<'_>, damages: &str) -> Result<MemBench, AllocError> {
+    let image = hurt_volume(alloc, case, damages)?;
+    Ok(bench_of(alloc, image, Vec::new(alloc)))
+}
+
+// The side file at the start.
+fn side_at_start(alloc: Global, case: Case<'_>) -> Result<Vec<u8>, AllocError> {
+    let mended = hurt_volume(alloc, case, case.mended)?;
+    side_of(alloc, &mended, block_size(case), case.log, case.side)
 }
 
 // The bench at the start: the damaged image, or so many zeros, and the side file.
@@ -58,21 +76,24 @@ fn start_of(alloc: Global, case: Case<'_>) -> Result<MemBench, AllocError>
         return Ok(MemBench::sparse(alloc, number(volume, 1)));
     }
     let image = hurt_volume(alloc, case, case.image)?;
-    let mended = hurt_volume(alloc, case, case.mended)?;
-    let side = side_of(alloc, &mended, size_of(volume), case.log, case.side)?;
+    let side = side_at_start(alloc, case)?;
     Ok(bench_of(alloc, image, side))
+}
+
+// The closed log of a repair.
+fn log_at_end(alloc: Global, case: Case<'_>) -> Result<Vec<u8>, AllocError> {
+    let image = hurt_volume(alloc, case, case.mended)?;
+    let mut log = Vec::new(alloc);
+    add_log(&mut log, &image, block_size(case), case.log)?;
+    Ok(log)
 }
 
 // What a repair is to leave.
 fn wanted_of(alloc: Global, case: Case<'_>) -> Result<Wanted, AllocError> {
-    let size = size_of(part(case.image, ' ', 0));
-    let volume = hurt_volume(alloc, case, "")?;
-    let image = hurt_volume(alloc, case, case.mended)?;
-    let log = log_of(alloc, &image, size, case.log)?;
     Ok(Wanted {
-        volume: bench_of(alloc, volume, Vec::new(alloc)),
-        image: bench_of(alloc, image, Vec::new(alloc)),
-        log,
+        log: log_at_end(alloc, case)?,
+        volume: hurt_bench(alloc, case, "")?,
+        image: hurt_bench(alloc, case, case.mended)?,
     })
 }
 
@@ -85,33 +106,37 @@ fn digest_told(alloc: Global, case: Case<'_>) -> Result<String, AllocError> {
     Ok(text)
 }
 
+// The volume of an image whose blocks have 512 bytes.
+fn volume_in(alloc: Global, bench: &mut MemBench) -> Result<Volume, LayerStop> {
+    bench.attach(Role::Image, "a.img", Access::Read)?;
+    let length = bench.length(Role::Image)?;
+    open_volume(alloc, bench, 512, length)
+}
+
 // What the volume of the image states, or why there is none.
 fn volume_told(alloc: Global, case: Case<'_>) -> Result<String, AllocError> {
-    let image = hurt_volume(alloc, case, case.image)?;
-    let mut bench = bench_of(alloc, image, Vec::new(alloc));
-    if bench.attach(Role::Image, "a.img", Access::Read).is_err() {
-        return String::from_str(alloc, "not attached");
-    }
-    let Ok(length) = bench.length(Role::Image) else {
-        return String::from_str(alloc, "no length");
-    };
-    let volume = open_volume(alloc, &mut bench, 512, length);
+    let mut bench = hurt_bench(alloc, case, case.image)?;
+    let volume = volume_in(alloc, &mut bench);
     format!(in alloc; "{volume:?}")
 }
 
-// The line of the finding whose rule, partition, block and two values stand between colons.
-fn finding_told(alloc: Global, words: &str) -> Result<String, AllocError> {
-    let finding = Finding {
+// The finding whose rule, partition, block and two values stand between colons.
+fn finding_of(words: &str) -> Finding {
+    let address = Addr {
+        part: small(words, 1).min(65535) as u16,
+        block: small(words, 2),
+    };
+    Finding {
         rule: byte(words, 0),
-        place: Place::At(Addr {
-            part: small(words, 1).min(65535) as u16,
-            block: small(words, 2),
-        }),
+        place: Place::At(address),
         first: number(words, 3),
         second: number(words, 4),
-    };
+    }
+}
+
+fn finding_told(alloc: Global, words: &str) -> Result<String, AllocError> {
     let mut line = [0u8; 64];
-    let end = report_line(&finding, &mut line);
+    let end = report_line(&finding_of(words), &mut line);
     let mut text = String::new(alloc);
     for byte in line.iter().take(end) {
         text.push(if *byte == b'\n' { ';' } else { *byte as char })?;
@@ -119,49 +144,47 @@ fn finding_told(alloc: Global, words: &str) -> Result<String, AllocError> {
     Ok(text)
 }
 
+// Runs the tool in the way that the trouble asks for.
+fn trial_told(trial: &Trial<'_>, start: &MemBench, trouble: &str) -> Result<String, AllocError>
+    requires { (script_in start.now).calls ≡ 0 }
+{
+    match part(trouble, ':', 0) {
+        "faults" => each_fault_told(trial, start),
+        "stops" => each_stop_told(trial, start, byte(trouble, 1)),
+        "twice" => {
+            let (bytes, fill) = (number(trouble, 1), byte(trouble, 2));
+            each_pair_of_stops_told(trial, start, bytes, fill)
+        }
+        "stop" => stopped_told(trial, start, cut_of(trouble)),
+        _ => rounds_told(trial, start, &failure_of(trouble)),
+    }
+}
+
 fn tool_told(alloc: Global, case: Case<'_>) -> Result<String, AllocError> {
     let words = words_of(alloc, case.words)?;
-    let wanted = wanted_of(alloc, case)?;
     let start = start_of(alloc, case)?;
-    let trouble = case.trouble;
-    match part(trouble, ':', 0) {
-        "faults" => each_fault_told(alloc, &words, &start, &wanted),
-        "stops" => each_stop_told(alloc, &words, &start, byte(trouble, 1), &wanted),
-        "twice" => each_pair_of_stops_told(
-            alloc,
-            &words,
-            &start,
-            number(trouble, 1),
-            byte(trouble, 2),
-            &wanted,
-        ),
-        "stop" => {
-            let cut = cut_of(trouble);
-            let call = call_of(alloc, &words, &start, cut)?;
-            let stop = Trouble::stopping(call, cut.bytes, cut.fill);
-            rounds_told(alloc, &words, &start, &stop, &wanted)
-        }
-        "fail" => {
-            let fail = Trouble::failing(number(trouble, 1));
-            rounds_told(alloc, &words, &start, &fail, &wanted)
-        }
-        "put" => {
-            let put = Trouble::failing_put(number(trouble, 1));
-            rounds_told(alloc, &words, &start, &put, &wanted)
-        }
-        _ => rounds_told(alloc, &words, &start, &Trouble::NONE, &wanted),
+    let wanted = wanted_of(alloc, case)?;
+    let trial = Trial {
+        alloc,
+        words: &words,
+        wanted: &wanted,
+    };
+    trial_told(&trial, &start, case.trouble)
+}
+
+// What came of a case.
+fn outcome_told(alloc: Global, case: Case<'_>) -> Result<String, AllocError> {
+    match part(case.words, ' ', 0) {
+        "digest" => digest_told(alloc, case),
+        "volume" => volume_told(alloc, case),
+        "finding" => finding_told(alloc, case.image),
+        _ => tool_told(alloc, case),
     }
 }
 
 /// What came of the case of a line, behind its name.
 pub(crate) fn told(alloc: Global, line: &str) -> Result<String, AllocError> {
     let name = part(line, '|', 0);
-    let case = case_of(line);
-    let told = match part(case.words, ' ', 0) {
-        "digest" => digest_told(alloc, case)?,
-        "volume" => volume_told(alloc, case)?,
-        "finding" => finding_told(alloc, case.image)?,
-        _ => tool_told(alloc, case)?,
-    };
+    let told = outcome_told(alloc, case_of(line))?;
     format!(in alloc; "{name}: {told}")
 }

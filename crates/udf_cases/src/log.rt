@@ -33,36 +33,38 @@ fn add_record(log: &mut Vec<u8>, image: &[u8], size: usize, word: &str) -> Resul
     Ok(())
 }
 
-/// The closed log of a repair that leaves this image.
-pub(crate) fn log_of(
-    alloc: Global,
+// What stands before the records: the gate and the name, four numbers of the image, the seal, and the number of records.
+fn add_head(log: &mut Vec<u8>, image: &[u8], size: u32, words: &str) -> Result<(), AllocError>
+    requires { 0 < size }
+{
+    let blocks = u32::try_from(image.len() / size as usize).unwrap_or(0);
+    let (first, count) = (small(words, 0), small(words, 1));
+    log.extend_from_slice(b"\0UDFREDO1")?;
+    for number in [size, blocks, first, count] {
+        add_number(log, number)?;
+    }
+    log.extend_from_slice(&seal_of(image, size as usize, first as usize, count as usize))?;
+    let records = words.split(':').skip(2).count();
+    add_number(log, u32::try_from(records).unwrap_or(0))
+}
+
+/// Appends the closed log of a repair that leaves this image, or nothing where there are no words.
+pub(crate) fn add_log(
+    log: &mut Vec<u8>,
     image: &[u8],
     size: u32,
     words: &str,
-) -> Result<Vec<u8>, AllocError>
+) -> Result<(), AllocError>
     requires { 0 < size }
 {
-    let mut log = Vec::new(alloc);
     if words.is_empty() {
-        return Ok(log);
+        return Ok(());
     }
-    let first = small(words, 0);
-    let count = small(words, 1);
-    let records = words.split(':').skip(2).count();
-    log.extend_from_slice(b"\0UDFREDO1")?;
-    add_number(&mut log, size)?;
-    add_number(
-        &mut log,
-        u32::try_from(image.len() / size as usize).unwrap_or(0),
-    )?;
-    add_number(&mut log, first)?;
-    add_number(&mut log, count)?;
-    log.extend_from_slice(&seal_of(image, size as usize, first as usize, count as usize))?;
-    add_number(&mut log, u32::try_from(records).unwrap_or(0))?;
+    add_head(log, image, size, words)?;
     for word in words.split(':').skip(2) {
-        add_record(&mut log, image, size as usize, word)?;
+        add_record(log, image, size as usize, word)?;
     }
-    Ok(log)
+    Ok(())
 }
 
 /// The log over what a side file held: what lies behind its end stays.

@@ -25,6 +25,7 @@ mod rounds;
 mod run;
 mod side;
 mod told;
+mod trial;
 mod trouble;
 mod volume;
 mod words;

@@ -3,6 +3,7 @@ ghost use Rattle.std.specs.Prelude.{◌≡◌, None, IfOk};
 ghost use Rattle.udf_outside.specs.Memory.{files_in, held_in, script_in};
 ghost use Rattle.udf_outside.specs.Stops.{IsSynced};
 
+use crate::trial::Trial;
 use crate::trouble::Trouble;
 use std::alloc::{AllocError, Global};
 use udf_outside::{MemBench, MemSink, Role};
@@ -49,34 +50,65 @@ fn troubled(alloc: Global, begun: &MemBench, trouble: &Trouble) -> Result<MemBen
     Ok(begun.again(alloc)?.armed(fail, trouble.stop))
 }
 
-/// Runs `udffsck` with these words over a copy of a bench of which no call was made.
-pub(crate) fn run_over(
+// Runs `udffsck` with these words. What its contract says of the outcome is left to the compared texts.
+fn ran(alloc: Global, words: &[String], bench: &mut MemBench, out: &mut MemSink) -> Outcome
+    requires image { (files_in bench.old).image.asked ≡ None }
+    requires side { (files_in bench.old).side.asked ≡ None }
+    requires synced { IsSynced (held_in bench.old) }
+{
+    run_udffsck(alloc, words, bench, out)
+}
+
+// Why the words were no command.
+fn cause_of(outcome: &Outcome) -> Option<Cause> {
+    match outcome {
+        Outcome::Usage(cause) => Some(*cause),
+        _ => None,
+    }
+}
+
+// What came of a run, and what a stop then leaves, filled with a byte.
+fn ended(
     alloc: Global,
-    words: &[String],
+    bench: MemBench,
+    out: &MemSink,
+    outcome: &Outcome,
+    fill: u8,
+) -> Result<Run, AllocError>
+    ensures left { IfOk result (λ run. (script_in run.left).calls ≡ 0) }
+{
+    Ok(Run {
+        printed: out.bytes().to_vec(alloc)?,
+        status: status(outcome),
+        cause: cause_of(outcome),
+        calls: bench.calls(),
+        image_writes: bench.writes(Role::Image),
+        side_writes: bench.writes(Role::Side),
+        left: bench.restarted(fill)?,
+    })
+}
+
+/// Runs `udffsck` over a copy of a bench of which no call was made.
+pub(crate) fn run_over(
+    trial: &Trial<'_>,
     begun: &MemBench,
     trouble: &Trouble,
 ) -> Result<Run, AllocError>
     requires begun { (script_in begun.now).calls ≡ 0 }
     ensures left { IfOk result (λ run. (script_in run.left).calls ≡ 0) }
 {
+    let alloc = trial.alloc;
     let mut bench = troubled(alloc, begun, trouble)?;
     let mut out = MemSink::new(alloc, numbers(alloc, trouble.put)?);
-    let outcome = run_udffsck(alloc, words, &mut bench, &mut out);
-    let cause = match &outcome {
-        Outcome::Usage(cause) => Some(*cause),
-        _ => None,
-    };
-    let (calls, image_writes) = (bench.calls(), bench.writes(Role::Image));
-    let side_writes = bench.writes(Role::Side);
-    Ok(Run {
-        printed: out.bytes().to_vec(alloc)?,
-        status: status(&outcome),
-        cause,
-        calls,
-        image_writes,
-        side_writes,
-        left: bench.restarted(trouble.fill)?,
-    })
+    let outcome = ran(alloc, trial.words, &mut bench, &mut out);
+    ended(alloc, bench, &out, &outcome, trouble.fill)
+}
+
+/// The number of calls of a run without trouble.
+pub(crate) fn calls_of(trial: &Trial<'_>, begun: &MemBench) -> Result<u64, AllocError>
+    requires { (script_in begun.now).calls ≡ 0 }
+{
+    Ok(run_over(trial, begun, &Trouble::NONE)?.calls)
 }
 
 impl Run {

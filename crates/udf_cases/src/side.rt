@@ -3,7 +3,7 @@
 //! offset), `flip` (each bit is turned), and `cut:70` (only so many bytes are left).
 ghost use Rattle.std.specs.Prelude.{◌<◌};
 
-use crate::log::{log_of, open};
+use crate::log::{add_log, open};
 use crate::words::{byte, number, part};
 use std::alloc::{AllocError, Global};
 
@@ -26,9 +26,21 @@ fn add_zeros(side: &mut Vec<u8>, count: u8) -> Result<(), AllocError> {
     Ok(())
 }
 
+// Changes the bytes as a word says, and adds none.
+fn alter(side: &mut Vec<u8>, word: &str) {
+    let at = number(word, 1) as usize;
+    match part(word, ':', 0) {
+        "open" => open(side),
+        "put" => put(side, at, part(word, ':', 2).as_bytes()),
+        "byte" => put(side, at, &[byte(word, 2)]),
+        "flip" => flip(side),
+        "cut" => side.truncate(at),
+        _ => {}
+    }
+}
+
 // Does what a word says. `log` are the words of the log, and `image` is what it leaves, of blocks of `size` bytes.
 fn change(
-    alloc: Global,
     side: &mut Vec<u8>,
     image: &[u8],
     size: u32,
@@ -37,22 +49,18 @@ fn change(
 ) -> Result<(), AllocError>
     requires { 0 < size }
 {
-    let at = number(word, 1) as usize;
     match part(word, ':', 0) {
         "log" => {
             let words = word.split_once(':').map_or(log, |parts| parts.1);
-            side.extend_from_slice(&log_of(alloc, image, size, words)?)?;
+            add_log(side, image, size, words)
         }
-        "open" => open(side),
-        "text" => side.extend_from_slice(part(word, ':', 1).as_bytes())?,
-        "zeros" => add_zeros(side, byte(word, 1))?,
-        "put" => put(side, at, part(word, ':', 2).as_bytes()),
-        "byte" => put(side, at, &[byte(word, 2)]),
-        "flip" => flip(side),
-        "cut" => side.truncate(at),
-        _ => {}
+        "text" => side.extend_from_slice(part(word, ':', 1).as_bytes()),
+        "zeros" => add_zeros(side, byte(word, 1)),
+        _ => {
+            alter(side, word);
+            Ok(())
+        }
     }
-    Ok(())
 }
 
 /// The bytes of the side file. `log` are the words of the log, and `image` is what it leaves, of blocks of `size` bytes.
@@ -67,7 +75,7 @@ pub(crate) fn side_of(
 {
     let mut side = Vec::new(alloc);
     for word in words.split_whitespace() {
-        change(alloc, &mut side, image, size, log, word)?;
+        change(&mut side, image, size, log, word)?;
     }
     Ok(side)
 }

@@ -2,17 +2,9 @@
 
 use crate::log::{open, over};
 use crate::run::Run;
-use std::alloc::{AllocError, Global};
+use crate::trial::Trial;
+use std::alloc::AllocError;
 use udf_outside::{MemBench, Role};
-
-/// What the files of a run are compared with: the volume before its damages and the image that a repair is to leave, each as the
-/// image of a bench, and the closed log.
-#[derive(Drop)]
-pub(crate) struct Wanted {
-    pub volume: MemBench,
-    pub image: MemBench,
-    pub log: Vec<u8>,
-}
 
 // The printed lines, with `; ` behind each.
 fn add_lines(text: &mut String, printed: &[u8]) -> Result<(), AllocError> {
@@ -27,10 +19,10 @@ fn add_lines(text: &mut String, printed: &[u8]) -> Result<(), AllocError> {
 }
 
 // What the image is now.
-fn image_told(begun: &MemBench, run: &Run, wanted: &Wanted) -> &'static str {
-    if run.left.same(&wanted.volume, Role::Image) {
+fn image_named(trial: &Trial<'_>, begun: &MemBench, run: &Run) -> &'static str {
+    if run.left.same(&trial.wanted.volume, Role::Image) {
         "whole"
-    } else if run.left.same(&wanted.image, Role::Image) {
+    } else if run.left.same(&trial.wanted.image, Role::Image) {
         "as wanted"
     } else if run.left.same(begun, Role::Image) {
         "as it was"
@@ -39,28 +31,34 @@ fn image_told(begun: &MemBench, run: &Run, wanted: &Wanted) -> &'static str {
     }
 }
 
-// What the side file is now.
-fn side_told(
-    alloc: Global,
-    begun: &MemBench,
-    run: &Run,
-    wanted: &Wanted,
-) -> Result<&'static str, AllocError> {
-    let before = begun.copy(alloc, Role::Side)?;
-    let after = run.left.copy(alloc, Role::Side)?;
-    let mut log = over(alloc, &wanted.log, &before)?;
-    if after == log {
-        return Ok("the closed log");
+// What a side file is that held these bytes before and holds those after a run, whose log would leave it so.
+fn side_named(before: &[u8], after: &[u8], log: &mut Vec<u8>) -> &'static str {
+    if after == log.as_slice() {
+        return "the closed log";
     }
-    open(&mut log);
-    if after == log {
-        return Ok("the open log");
-    }
-    Ok(if after == before {
+    open(log);
+    if after == log.as_slice() {
+        "the open log"
+    } else if after == before {
         "as it was"
     } else {
         "changed"
-    })
+    }
+}
+
+// What the side file is now, and its length.
+fn add_side(
+    trial: &Trial<'_>,
+    text: &mut String,
+    begun: &MemBench,
+    run: &Run,
+) -> Result<(), AllocError> {
+    let before = begun.copy(trial.alloc, Role::Side)?;
+    let after = run.left.copy(trial.alloc, Role::Side)?;
+    let mut log = over(trial.alloc, &trial.wanted.log, &before)?;
+    let side = side_named(&before, &after, &mut log);
+    let bytes = after.len();
+    write!(text, ", side file {side} of {bytes} bytes")
 }
 
 // Whether both files hold what they held, and neither was written.
@@ -68,46 +66,51 @@ fn left_all(begun: &MemBench, run: &Run) -> bool {
     run.writes() == 0 && run.left.same(begun, Role::Image) && run.left.same(begun, Role::Side)
 }
 
-// The state of both files, where one was written.
-fn add_files(
-    alloc: Global,
+// What the image is now.
+fn add_image(
+    trial: &Trial<'_>,
     text: &mut String,
     begun: &MemBench,
     run: &Run,
-    wanted: &Wanted,
 ) -> Result<(), AllocError> {
+    let (image, writes) = (image_named(trial, begun, run), run.image_writes);
+    write!(text, ", image {image} after {writes} writes")
+}
+
+// The state of both files, where one was written.
+fn add_files(
+    trial: &Trial<'_>,
+    text: &mut String,
+    begun: &MemBench,
+    run: &Run,
+) -> Result<(), AllocError> {
+    if run.calls == 0 {
+        return text.push_str(", nothing asked");
+    }
     if left_all(begun, run) {
         return text.push_str(", nothing written");
     }
-    let (image, side) = (
-        image_told(begun, run, wanted),
-        side_told(alloc, begun, run, wanted)?,
-    );
-    let (writes, bytes) = (run.image_writes, run.left.copy(alloc, Role::Side)?.len());
-    write!(
-        text,
-        ", image {image} after {writes} writes, side file {side} of {bytes} bytes"
-    )
+    add_image(trial, text, begun, run)?;
+    add_side(trial, text, begun, run)
 }
 
-/// A run in words.
-pub(crate) fn run_told(
-    alloc: Global,
+// The status, and why the words were no command.
+fn add_status(text: &mut String, run: &Run) -> Result<(), AllocError> {
+    let status = run.status;
+    match run.cause {
+        Some(cause) => write!(text, "status {status} ({cause:?})"),
+        None => write!(text, "status {status}"),
+    }
+}
+
+/// Appends a run in words.
+pub(crate) fn add_run(
+    trial: &Trial<'_>,
+    text: &mut String,
     begun: &MemBench,
     run: &Run,
-    wanted: &Wanted,
-) -> Result<String, AllocError> {
-    let mut text = String::new(alloc);
-    add_lines(&mut text, &run.printed)?;
-    let status = run.status;
-    write!(text, "status {status}")?;
-    if let Some(cause) = run.cause {
-        write!(text, " ({cause:?})")?;
-    }
-    if run.calls == 0 {
-        text.push_str(", nothing asked")?;
-    } else {
-        add_files(alloc, &mut text, begun, run, wanted)?;
-    }
-    Ok(text)
+) -> Result<(), AllocError> {
+    add_lines(text, &run.printed)?;
+    add_status(text, run)?;
+    add_files(trial, text, begun, run)
 }

@@ -6,7 +6,7 @@ use crate::words::{byte, number, part};
 use udf_outside::{Role, Stop};
 
 /// What fails in a run, where it stops, and the byte with which a restart fills what was not durable.
-#[derive(Clone, Copy, Debug)]
+#[derive(Clone, Copy)]
 pub(crate) struct Trouble {
     pub fail: Option<u64>,
     pub put: Option<u64>,
@@ -49,8 +49,17 @@ impl Trouble {
     }
 }
 
+/// The failure that a word names, or none.
+pub(crate) fn failure_of(word: &str) -> Trouble {
+    match part(word, ':', 0) {
+        "fail" => Trouble::failing(number(word, 1)),
+        "put" => Trouble::failing_put(number(word, 1)),
+        _ => Trouble::NONE,
+    }
+}
+
 /// A write of a role at which a run stops.
-#[derive(Clone, Copy, Debug)]
+#[derive(Clone, Copy)]
 pub(crate) struct Cut {
     pub role: Role,
     pub write: u64,
