@@ -1,5 +1,5 @@
 -- A volume without a sparable map has no sparing tables and no used packets.
-use Rattle.std.proofs.Common.{◌≡◌, ℕ, refl, sym, ◌∙◌, ap, List, [], ◌∷◌, ◌++◌, Bool, true, false, ◌&&◌, Option, Some, None, append-nil}
+use Rattle.std.proofs.Common.{◌≡◌, ℕ, refl, ◌∙◌, ap, List, [], ◌∷◌, ◌++◌, true, ◌&&◌, Option, Some, None, append-nil}
 use Rattle.std.proofs.lemmas.Bool.{and_parts, and_from}
 use Rattle.std.specs.Prelude.{is_none}
 use Rattle.std.specs.List.{list_all}
@@ -8,7 +8,6 @@ use Rattle.udf_volume_model.specs.Anchor.{Anchor}
 use Rattle.udf_volume_model.specs.Kept.{KeptSequence}
 use Rattle.udf_volume_model.specs.Maps.{SparingMap, Shape, shape_of}
 use Rattle.udf_volume_model.specs.Stated.{logical, sparing, sparing_by, is_built_shape, is_built_over, is_built}
-use Rattle.udf_volume_model.specs.SparingTable.{Table}
 use Rattle.udf_volume_model.specs.Areas.{Area, area_of, areas_of, integrity_areas, layout_of, no_table, packets_of, partition_area, table_areas, tables_by, taken, used_by, used_table}
 use Rattle.udf_volume_model.specs.Layout.{anchor_areas, are_apart, are_packets, has_table, has_table_by, is_packet, is_spared}
 use Rattle.udf_volume_model.specs.SparingRule.{copies_of, findings_of, table_edits, table_findings, tables_agree, tables_hold}
