@@ -1,0 +1,4 @@
+pub mod Members
+pub mod Reached
+pub mod Places
+pub mod Finding

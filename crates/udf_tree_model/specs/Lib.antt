@@ -1,0 +1,10 @@
+-- Which files a volume has, what they own, and what of them is kept.
+pub mod Link
+pub mod Node
+pub mod Rounds
+pub mod Found
+pub mod Won
+pub mod Chosen
+pub mod Kept
+pub mod Frame
+pub mod Laws

@@ -1,0 +1,28 @@
+//! Which files a volume has, what they own, and what of them is kept: definitions over the nodes that are read of a volume, in the
+//! terms of ECMA-167 part 4. The code of this crate is laws alone: functions with an empty body whose contract says what the
+//! definitions mean. It stands on the definitions of files.
+#![tactic(auto)]
+
+ghost use Rattle.std.specs.Prelude.{◌≡◌, ℕ, true};
+ghost use Rattle.udf_field.specs.declared.address.Addr.{Addr};
+ghost use Rattle.udf_file_model.specs.Listing.{Volume, is_placed};
+ghost use Rattle.udf_tree_model.specs.Node.{Tree, Setting, readable};
+ghost use Rattle.udf_tree_model.specs.Rounds.{IsLeastClosed, IsShortest, in_round};
+ghost use Rattle.udf_tree_model.specs.Found.{found, found_graph, level};
+ghost use Rattle.udf_tree_model.specs.Frame.{Frame, is_address, setting_of, tree_of};
+ghost use Rattle.udf_tree_model.specs.Laws.{IsWithin};
+
+/// What is found is the least set that has each readable start, and with an entry the readable targets of its links; rounds
+/// beyond as many as there are places add nothing, and the level is the length of a shortest way from a start. The places of
+/// a volume have each of its readable entries.
+pub fn found_law()
+    ensures least { (s : Setting) (t : Tree) → IsWithin s t → IsLeastClosed (found_graph s t) (found s t) }
+    ensures full { (s : Setting) (t : Tree) → IsWithin s t → (k : ℕ) (a : Addr) → in_round (found_graph s t) k a ≡ true
+        → found s t a ≡ true }
+    ensures readable { (s : Setting) (t : Tree) → IsWithin s t → (a : Addr) → found s t a ≡ true → readable t a ≡ true }
+    ensures level { (s : Setting) (t : Tree) → IsWithin s t → (a : Addr) → found s t a ≡ true
+        → IsShortest (found_graph s t) a (level s t a) }
+    ensures within { (f : Frame) (v : Volume) → IsWithin (setting_of f v) (tree_of f v) }
+    ensures placed { (f : Frame) (v : Volume) (a : Addr) → readable (tree_of f v) a ≡ true
+        → (is_address a ≡ true) × (is_placed v a ≡ true) }
+{}
