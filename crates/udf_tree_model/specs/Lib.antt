@@ -4,7 +4,7 @@ pub mod Node
 pub mod Rounds
 pub mod Found
 pub mod Won
+pub mod Laws
 pub mod Chosen
 pub mod Kept
 pub mod Frame
-pub mod Laws

@@ -3,14 +3,15 @@
 //! definitions mean. It stands on the definitions of files.
 #![tactic(auto)]
 
-ghost use Rattle.std.specs.Prelude.{◌≡◌, ℕ, true};
+ghost use Rattle.std.specs.Prelude.{◌≡◌, ◌≤◌, ◌↔◌, ℕ, Contains, true};
 ghost use Rattle.udf_field.specs.declared.address.Addr.{Addr};
 ghost use Rattle.udf_file_model.specs.Listing.{Volume, is_placed};
-ghost use Rattle.udf_tree_model.specs.Node.{Tree, Setting, readable};
+ghost use Rattle.udf_tree_model.specs.Node.{Item, Setting, Tree, good_length, node_at, readable};
 ghost use Rattle.udf_tree_model.specs.Rounds.{IsLeastClosed, IsShortest, in_round};
 ghost use Rattle.udf_tree_model.specs.Found.{found, found_graph, level};
 ghost use Rattle.udf_tree_model.specs.Frame.{Frame, is_address, setting_of, tree_of};
-ghost use Rattle.udf_tree_model.specs.Laws.{IsWithin};
+ghost use Rattle.udf_tree_model.specs.Laws.{FallAway, IsWithin, SameWant};
+ghost use Rattle.udf_tree_model.specs.Won.{IsFree, IsUnrivalled, IsWant, kept_length, wins};
 
 /// What is found is the least set that has each readable start, and with an entry the readable targets of its links; rounds
 /// beyond as many as there are places add nothing, and the level is the length of a shortest way from a start. The places of
@@ -25,4 +26,19 @@ pub fn found_law()
     ensures within { (f : Frame) (v : Volume) → IsWithin (setting_of f v) (tree_of f v) }
     ensures placed { (f : Frame) (v : Volume) (a : Addr) → readable (tree_of f v) a ≡ true
         → (is_address a ≡ true) × (is_placed v a ≡ true) }
+{}
+
+/// An entry wins what it wants exactly where the address is not fixed, nothing bars the want, no want of that address has a
+/// lower class and no other found entry has one of that class. So an address has one winner, and what was won stays won where
+/// competitors fall away. Of its content an entry keeps no more than the good length, and all of that where it wins its list.
+pub fn claims_law()
+    ensures exactly { (s : Setting) (t : Tree) → IsWithin s t → (a : Addr) (i : Item)
+        → (wins s t a i ≡ true) ↔ (IsFree s i × IsUnrivalled s t a i) }
+    ensures one { (s : Setting) (t : Tree) → IsWithin s t → (a b : Addr) (i j : Item) → IsWant s t a i → IsWant s t b j
+        → i.at ≡ j.at → wins s t a i ≡ true → wins s t b j ≡ true → a ≡ b }
+    ensures stays { (s : Setting) (t u : Tree) → IsWithin s t → FallAway s t u → (a : Addr) (i x : Item) → SameWant i x
+        → wins s t a x ≡ true → wins s u a i ≡ true }
+    ensures within { (s : Setting) (t : Tree) (a : Addr) → kept_length s t a ≤ good_length t a }
+    ensures whole { (s : Setting) (t : Tree) (a : Addr)
+        → ((i : Item) → Contains (node_at t a).list i → i.takes ≡ true → wins s t a i ≡ true) → kept_length s t a ≡ good_length t a }
 {}
