@@ -3,3 +3,7 @@ pub mod Reached
 pub mod Places
 pub mod Finding
 pub mod Winning
+pub mod Linking
+pub mod Keeping
+pub mod Choosing
+pub mod Offsets

@@ -78,12 +78,13 @@ against_from a o i j h = go j.takes refl (same_addr j.at i.at) refl (same_addr o
 
 pub wins_means : (s : Setting) (t : Tree) → IsWithin s t → (a : Addr) (i : Item) → wins s t a i ≡ true → IsFree s i × IsUnrivalled s t a i
 wins_means s t w a i h =
-    let r = wins_gives s t a i h in
-    (record { not_fixed = r.0; not_barred = r.1 },
-    record {
-      lowest = λ o j k e. (rival r.2 o j k e).0;
-      alone = λ o j k e n. (rival r.2 o j k e).1 n;
-    })
+    let r = wins_gives s t a i h in (
+      record { not_fixed = r.0; not_barred = r.1 },
+      record {
+        lowest = λ o j k e. (rival r.2 o j k e).0;
+        alone = λ o j k e n. (rival r.2 o j k e).1 n;
+      },
+    )
   where
     rival : ((o : Addr) (j : Item) → Member o s.places → found s t o ≡ true → Member j (wants t o) → stands_against a i o j ≡ true)
         → (o : Addr) (j : Item) → IsWant s t o j → j.at ≡ i.at → (i.class ≤ j.class) × (o ≢ a → i.class < j.class)

@@ -4,7 +4,8 @@ pub mod Node
 pub mod Rounds
 pub mod Found
 pub mod Won
-pub mod Laws
 pub mod Chosen
 pub mod Kept
+pub mod Laws
+pub mod Mended
 pub mod Frame

@@ -3,15 +3,18 @@
 //! definitions mean. It stands on the definitions of files.
 #![tactic(auto)]
 
-ghost use Rattle.std.specs.Prelude.{◌≡◌, ◌≤◌, ◌↔◌, ℕ, Contains, true};
+ghost use Rattle.std.specs.Prelude.{◌≡◌, ◌≤◌, ◌↔◌, ◌⊎◌, ℕ, Contains, Some, None, true, false};
 ghost use Rattle.udf_field.specs.declared.address.Addr.{Addr};
 ghost use Rattle.udf_file_model.specs.Listing.{Volume, is_placed};
 ghost use Rattle.udf_tree_model.specs.Node.{Item, Setting, Tree, good_length, node_at, readable};
 ghost use Rattle.udf_tree_model.specs.Rounds.{IsLeastClosed, IsShortest, in_round};
 ghost use Rattle.udf_tree_model.specs.Found.{found, found_graph, level};
 ghost use Rattle.udf_tree_model.specs.Frame.{Frame, is_address, setting_of, tree_of};
-ghost use Rattle.udf_tree_model.specs.Laws.{FallAway, IsWithin, SameWant};
-ghost use Rattle.udf_tree_model.specs.Won.{IsFree, IsUnrivalled, IsWant, kept_length, wins};
+ghost use Rattle.udf_tree_model.specs.Laws.{FallAway, HasSoundStarts, IsOffer, IsWithin, KeepsBy, PlacesDiffer, SameWant};
+ghost use Rattle.udf_tree_model.specs.Link.{Link, target_of};
+ghost use Rattle.udf_tree_model.specs.Chosen.{Rank, chosen, comes_before, fitted, rank_of};
+ghost use Rattle.udf_tree_model.specs.Kept.{depth, kept, kept_graph};
+ghost use Rattle.udf_tree_model.specs.Won.{IsFree, IsUnrivalled, IsWant, kept_length, sound, wins};
 
 /// What is found is the least set that has each readable start, and with an entry the readable targets of its links; rounds
 /// beyond as many as there are places add nothing, and the level is the length of a shortest way from a start. The places of
@@ -41,4 +44,37 @@ pub fn claims_law()
     ensures within { (s : Setting) (t : Tree) (a : Addr) → kept_length s t a ≤ good_length t a }
     ensures whole { (s : Setting) (t : Tree) (a : Addr)
         → ((i : Item) → Contains (node_at t a).list i → i.takes ≡ true → wins s t a i ≡ true) → kept_length s t a ≡ good_length t a }
+{}
+
+/// The chosen link to an address is the first of all links to it that sound entries have under names of their own, and there is
+/// none only where no such link is.
+pub fn chosen_law()
+    ensures offer { (s : Setting) (t : Tree) (a : Addr) (x : Rank) → chosen s t a ≡ Some x
+        → (d : Addr) × (f : Link) × IsOffer s t a d f × (x ≡ rank_of s t d f) }
+    ensures first { (s : Setting) (t : Tree) → IsWithin s t → (a : Addr) (x : Rank) → chosen s t a ≡ Some x
+        → (d : Addr) (f : Link) → IsOffer s t a d f → comes_before (rank_of s t d f) x ≡ false }
+    ensures none { (s : Setting) (t : Tree) → IsWithin s t → (a : Addr) → chosen s t a ≡ None
+        → (d : Addr) (f : Link) → IsOffer s t a d f → ⊥ }
+{}
+
+/// Where each start is a sound directory, what is kept is the least set that has the starts and the targets of the fitted links
+/// of its entries; each of it is sound, so found. The fitted link to a kept directory is its chosen one, and no other; none leads
+/// to a start. The depth is the length of a shortest way.
+pub fn kept_law()
+    ensures least { (s : Setting) (t : Tree) → IsWithin s t → HasSoundStarts s t → IsLeastClosed (kept_graph s t) (kept s t) }
+    ensures depth { (s : Setting) (t : Tree) → IsWithin s t → HasSoundStarts s t → (a : Addr) → kept s t a ≡ true
+        → IsShortest (kept_graph s t) a (depth s t a) }
+    ensures sound { (s : Setting) (t : Tree) → IsWithin s t → HasSoundStarts s t → (a : Addr) → kept s t a ≡ true
+        → sound s t a ≡ true }
+    ensures found { (s : Setting) (t : Tree) → IsWithin s t → HasSoundStarts s t → (a : Addr) → kept s t a ≡ true
+        → found s t a ≡ true }
+    ensures by { (s : Setting) (t : Tree) → IsWithin s t → HasSoundStarts s t → (a : Addr) → kept s t a ≡ true
+        → (s.start a ≡ true) ⊎ ((d : Addr) × (f : Link) × KeepsBy s t a d f) }
+    ensures chosen { (s : Setting) (t : Tree) (a d : Addr) (f : Link) → KeepsBy s t a d f → (node_at t a).directory ≡ true
+        → chosen s t a ≡ Some (rank_of s t d f) }
+    ensures one { (s : Setting) (t : Tree) → PlacesDiffer t → (a d e : Addr) (f g : Link) → KeepsBy s t a d f → KeepsBy s t a e g
+        → (node_at t a).directory ≡ true → (d ≡ e) × (f ≡ g) }
+    ensures starts { (s : Setting) (t : Tree) → HasSoundStarts s t → (a d : Addr) (f : Link) → KeepsBy s t a d f
+        → s.start a ≡ false }
+    ensures differ { (f : Frame) (v : Volume) → PlacesDiffer (tree_of f v) }
 {}
