@@ -1,5 +1,5 @@
 -- The node of each address of a volume, as its blocks state it.
-use Rattle.std.specs.Prelude.{ℕ, Bool, true, false, not, ◌+◌, ◌-◌, ◌*◌, ◌==◌, ◌&&◌, ◌||◌, min, nat_le, nat_lt, if◌then◌else◌, Option, Some, None, is_some, List, [], ◌∷◌, ◌++◌, length, map}
+use Rattle.std.specs.Prelude.{ℕ, Bool, true, false, not, ◌-◌, ◌*◌, ◌==◌, ◌&&◌, ◌||◌, min, nat_le, nat_lt, if◌then◌else◌, Option, Some, None, is_some, List, [], ◌∷◌, ◌++◌, length, map}
 use Rattle.std.specs.List.{filter, flat_map, range_with_len}
 use Rattle.udf_field.specs.declared.address.Addr.{Addr}
 use Rattle.udf_field.specs.declared.address.Long.{Long}
@@ -7,9 +7,10 @@ use Rattle.udf_file_model.specs.Address.{addr, same_addr}
 use Rattle.udf_file_model.specs.Entry.{Entry, entry_of, is_directory}
 use Rattle.udf_file_model.specs.Descriptors.{Descriptor}
 use Rattle.udf_file_model.specs.Pieces.{Piece, Extent, Blocks, runs_of}
-use Rattle.udf_file_model.specs.Front.{is_hole, is_part, blocks_for}
+use Rattle.udf_file_model.specs.Front.{is_hole, blocks_for}
 use Rattle.udf_file_model.specs.Listing.{Volume, is_placed, list_for, addresses_from}
 use Rattle.udf_file_model.specs.Content.{content}
+use Rattle.udf_file_model.specs.Cut.{to_part}
 use Rattle.udf_file_model.specs.Fid.{is_parent}
 use Rattle.udf_file_model.specs.Scan.{fids, fids_of}
 use Rattle.udf_tree_model.specs.Link.{Link, fid_links, pointed, pointer_link, pointer_links}
@@ -115,15 +116,10 @@ stream_of (Some long) = pointed long
 unfoldable pub links_of : ℕ → Entry → List ℕ → List Link
 links_of size e content = pointer_links (stream_of e.stream) ++ (if is_directory e then fid_links size content else [])
 
--- the bytes up to the end of the first descriptor of part blocks
-unfoldable pub to_part : ℕ → List Descriptor → ℕ
-to_part size [] = 0
-to_part size (d ∷ ds) = if is_part size d then d.length else d.length + to_part size ds
-
 -- the bytes that a content may have which grows in place: an embedded one as many as stand there, else those up to the end of the
 -- first descriptor of part blocks
 unfoldable pub capacity : ℕ → Entry → List Piece → ℕ
-capacity size e pieces = if e.kind == 3 then length e.body else to_part size (runs_of pieces)
+capacity size e pieces = if e.kind == 3 then length e.body else to_part size pieces
 
 -- a fresh parent FID has no name and 40 bytes (4/14.4)
 abbrev pub fresh_parent_length : ℕ

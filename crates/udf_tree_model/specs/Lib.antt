@@ -9,3 +9,8 @@ pub mod Kept
 pub mod Laws
 pub mod Mended
 pub mod Frame
+pub mod Refused
+pub mod Parent
+pub mod Content
+pub mod Counts
+pub mod Claimed
