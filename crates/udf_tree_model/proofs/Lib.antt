@@ -7,3 +7,5 @@ pub mod Linking
 pub mod Keeping
 pub mod Choosing
 pub mod Offsets
+pub mod Same
+pub mod Reading

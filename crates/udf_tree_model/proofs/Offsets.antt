@@ -1,9 +1,9 @@
 -- In what is read of an entry a place names one link: FIDs stand at different offsets, and the pointer before them.
-use Rattle.std.proofs.Common.{◌≡◌, ◌⊎◌, ℕ, suc, ◌<◌, List, [], ◌∷◌, ◌++◌, Bool, true, false, cond, Option, Some, None, sym, ap, ◌∙◌, subst, inl, inr, arith}
+use Rattle.std.proofs.Common.{◌≡◌, ◌⊎◌, ℕ, suc, ◌<◌, List, [], ◌∷◌, ◌++◌, Bool, true, false, Option, Some, None, sym, ap, ◌∙◌, subst, inl, inr, arith}
 use Rattle.std.specs.Prelude.{AllPairs}
 use Rattle.std.specs.List.{filter}
 use Rattle.udf_field.specs.declared.address.Addr.{Addr}
-use Rattle.udf_file_model.specs.Entry.{Entry, is_directory}
+use Rattle.udf_file_model.specs.Entry.{Entry}
 use Rattle.udf_file_model.specs.Listing.{Volume, list_for}
 use Rattle.udf_file_model.specs.Fid.{is_live}
 use Rattle.udf_file_model.specs.Scan.{Placed, fids, offsets}
@@ -83,11 +83,7 @@ both_one o fs h k f g m n e = go (member_append (pointer_links o) fs f m) (membe
 
 links_one : (size : ℕ) (e : Entry) (content : List ℕ) → OnePlace (links_of size e content)
 unfolding links_of
-links_one size e content = by_kind (is_directory e)
-  where
-    by_kind : (b : Bool) → OnePlace (pointer_links (stream_of e.stream) ++ cond b (fid_links size content) [])
-    by_kind true = both_one (stream_of e.stream) (fid_links size content) (fids_one size content) (fid_place size content)
-    by_kind false = both_one (stream_of e.stream) [] (λ f g m n q. absurd m) (λ f m q. m)
+links_one size e content = both_one (stream_of e.stream) (fid_links size content) (fids_one size content) (fid_place size content)
 
 pub volume_differ : (f : Frame) (v : Volume) → PlacesDiffer (tree_of f v)
 unfolding node_at tree_of node_with

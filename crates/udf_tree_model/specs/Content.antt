@@ -26,7 +26,7 @@ abbrev pub content_by : Frame → Volume → Addr → Option Entry → List ℕ
 content_by f v a None = []
 content_by f v a (Some e) = content_to v e (list_for v a e) (kept_length (setting_of f v) (tree_of f v) a)
 
--- the content of an entry up to the kept length
+-- the content of a directory up to the kept length
 unfoldable pub kept_content : Frame → Volume → Addr → List ℕ
 kept_content f v a = content_by f v a (entry_at v a)
 
@@ -71,8 +71,8 @@ content_stays f v a =
 unfoldable pub fresh_parent : ℕ → List ℕ → ℕ → Addr → List ℕ
 fresh_parent size entry location at =
     named_anew at (retagged location 24 (with_number 4 20 size (
-        (1 ∷ 1 ∷ slice_index entry 2 ∷ slice_index entry 3 ∷ 0 ∷ 0 ∷ slice_index entry 6 ∷ slice_index entry 7 ∷ replicate 8 0)
-        ++ (1 ∷ 0 ∷ 10 ∷ 0 ∷ replicate 20 0))))
+    (1 ∷ 1 ∷ slice_index entry 2 ∷ slice_index entry 3 ∷ 0 ∷ 0 ∷ slice_index entry 6 ∷ slice_index entry 7 ∷ replicate 8 0)
+    ++ (1 ∷ 0 ∷ 10 ∷ 0 ∷ replicate 20 0))))
 
 abbrev pub first_block : ℕ → List Descriptor → ℕ
 first_block own [] = own

@@ -104,17 +104,17 @@ items_of f size a e pieces =
     if e.kind == 3 then empty_item (length e.body) ∷ []
     else items size (extent_class f a) (block_class f a e) (is_barred f e (runs_of pieces)) pieces
 
--- the content of an entry with a list, up to so many bytes
-abbrev pub content_to : Volume → Entry → List Piece → ℕ → List ℕ
-content_to v e pieces limit = content v e (runs_of pieces) limit
+-- what is read of the content of an entry with a list, up to so many bytes: of a file nothing
+unfoldable pub content_to : Volume → Entry → List Piece → ℕ → List ℕ
+content_to v e pieces limit = if is_directory e then content v e (runs_of pieces) limit else []
 
 abbrev pub stream_of : Option Long → Option Addr
 stream_of None = None
 stream_of (Some long) = pointed long
 
--- the links of an entry with a content: its pointer, and of a directory its live FIDs
+-- the links of an entry with a content: its pointer, and the live FIDs
 unfoldable pub links_of : ℕ → Entry → List ℕ → List Link
-links_of size e content = pointer_links (stream_of e.stream) ++ (if is_directory e then fid_links size content else [])
+links_of size e content = pointer_links (stream_of e.stream) ++ fid_links size content
 
 -- the bytes that a content may have which grows in place: an embedded one as many as stand there, else those up to the end of the
 -- first descriptor of part blocks

@@ -14,3 +14,4 @@ pub mod Parent
 pub mod Content
 pub mod Counts
 pub mod Claimed
+pub mod Reads

@@ -3,16 +3,17 @@
 //! definitions mean. It stands on the definitions of files.
 #![tactic(auto)]
 
-ghost use Rattle.std.specs.Prelude.{◌≡◌, ◌≤◌, ◌↔◌, ◌⊎◌, ℕ, Contains, Some, None, true, false};
+ghost use Rattle.std.specs.Prelude.{◌≡◌, ◌≤◌, ◌↔◌, ◌⊎◌, ℕ, List, Contains, Some, None, true, false};
 ghost use Rattle.udf_field.specs.declared.address.Addr.{Addr};
-ghost use Rattle.udf_file_model.specs.Listing.{Volume, is_placed};
+ghost use Rattle.udf_file_model.specs.Listing.{Volume, is_placed, with_disk};
 ghost use Rattle.udf_tree_model.specs.Node.{Item, Setting, Tree, good_length, node_at, readable};
 ghost use Rattle.udf_tree_model.specs.Rounds.{IsLeastClosed, IsShortest, in_round};
 ghost use Rattle.udf_tree_model.specs.Found.{found, found_graph, level};
 ghost use Rattle.udf_tree_model.specs.Frame.{Frame, is_address, setting_of, tree_of};
-ghost use Rattle.udf_tree_model.specs.Laws.{FallAway, HasSoundStarts, IsOffer, IsWithin, KeepsBy, PlacesDiffer, SameWant};
+ghost use Rattle.udf_tree_model.specs.Laws.{FallAway, HasSoundStarts, IsOffer, IsWithin, KeepsBy, PlacesDiffer, SameSought, SameSurvey, SameWant};
 ghost use Rattle.udf_tree_model.specs.Link.{Link, target_of};
 ghost use Rattle.udf_tree_model.specs.Chosen.{Rank, chosen, comes_before, fitted, rank_of};
+ghost use Rattle.udf_tree_model.specs.Reads.{HasSameReads};
 ghost use Rattle.udf_tree_model.specs.Kept.{depth, kept, kept_graph};
 ghost use Rattle.udf_tree_model.specs.Won.{IsFree, IsUnrivalled, IsWant, kept_length, sound, wins};
 
@@ -77,4 +78,13 @@ pub fn kept_law()
     ensures starts { (s : Setting) (t : Tree) → HasSoundStarts s t → (a d : Addr) (f : Link) → KeepsBy s t a d f
         → s.start a ≡ false }
     ensures differ { (f : Frame) (v : Volume) → PlacesDiffer (tree_of f v) }
+{}
+
+/// What is found and kept rests on the blocks of the addresses at which entries are sought, of the allocation extents of found
+/// entries and of the contents of found directories: another disk that has the same there, and no whole allocation extent
+/// where there is none, tells the same. Contents of files are not read.
+pub fn reads_law()
+    ensures trees { (s : Setting) (t u : Tree) → IsWithin s t → SameSought s t u → SameSurvey s t u }
+    ensures disks { (f : Frame) (v : Volume) (disk : ℕ → List ℕ) → HasSameReads f v disk
+        → SameSurvey (setting_of f v) (tree_of f v) (tree_of f (with_disk v disk)) }
 {}
