@@ -9,3 +9,5 @@ pub mod Choosing
 pub mod Offsets
 pub mod Same
 pub mod Reading
+pub mod Settling
+pub mod Paths

@@ -1,6 +1,6 @@
 -- What a directory that is kept has to hold, and what its mend makes of its content.
 use Rattle.std.specs.Prelude.{ℕ, Bool, not, ◌&&◌, ◌||◌, ◌==◌, ◌∷◌, [], ◌++◌, List, replicate, slice_index, count_by, find, Option, Some, None, if◌then◌else◌}
-use Rattle.std.specs.List.{list_any, list_all}
+use Rattle.std.specs.List.{list_all}
 use Rattle.std.specs.Str.{bytes_eq}
 use Rattle.udf_field.specs.declared.address.Addr.{Addr}
 use Rattle.udf_model.specs.Bytes.{with_number}
@@ -15,11 +15,11 @@ use Rattle.udf_file_model.specs.Fid.{is_deleted, is_live, is_parent, target}
 use Rattle.udf_file_model.specs.Scan.{fids, fids_of}
 use Rattle.udf_file_model.specs.Pack.{packed}
 use Rattle.udf_file_model.specs.Anew.{named_anew}
-use Rattle.udf_tree_model.specs.Link.{Link, Says, Pointer, Fid, target_of, is_pointer}
-use Rattle.udf_tree_model.specs.Node.{Tree, Setting, node_at}
-use Rattle.udf_tree_model.specs.Won.{kept_length, sound, kept_links}
-use Rattle.udf_tree_model.specs.Chosen.{named, chosen, is_rank, fitted}
+use Rattle.udf_tree_model.specs.Link.{Link, Says, Pointer, Fid}
+use Rattle.udf_tree_model.specs.Won.{kept_length}
+use Rattle.udf_tree_model.specs.Chosen.{fitted}
 use Rattle.udf_tree_model.specs.Frame.{Frame, entry_at, content_to, setting_of, tree_of}
+use Rattle.udf_tree_model.specs.Rules.{targets_hold, names_hold}
 use Rattle.udf_tree_model.specs.Parent.{parent, is_stream_directory}
 
 abbrev pub content_by : Frame → Volume → Addr → Option Entry → List ℕ
@@ -33,22 +33,6 @@ kept_content f v a = content_by f v a (entry_at v a)
 -- its FIDs, each as its bytes
 abbrev pub kept_fids : Frame → Volume → Addr → List (List ℕ)
 kept_fids f v a = fids_of (fids v.size (kept_content f v a))
-
--- the rule on targets: each live FID names a sound entry
-unfoldable pub targets_hold : Setting → Tree → Addr → Bool
-targets_hold s t d = list_all (λ f. is_pointer f.says || sound s t (target_of f.says)) (kept_links s t d)
-
-abbrev pub is_named : Setting → Tree → Addr → Link → Bool
-is_named s t d f = list_any (λ g. g.place == f.place) (named s t d)
-
--- a start has no chosen link
-abbrev pub is_chosen : Setting → Tree → Addr → Link → Bool
-is_chosen s t d f = not (s.start (target_of f.says)) && is_rank d f (chosen s t (target_of f.says))
-
--- the rule on names and links: each live FID is the first of its name, and where it names a directory the chosen link to it
-unfoldable pub names_hold : Setting → Tree → Addr → Bool
-names_hold s t d =
-    list_all (λ f. is_pointer f.says || (is_named s t d f && (not (node_at t (target_of f.says)).directory || is_chosen s t d f))) (kept_links s t d)
 
 -- the rule on contents: FIDs one after another to its end, each deleted, live or a parent, one of them a parent; and unless the
 -- directory is a stream directory this names the directory's parent (ECMA-167 4/8.6)

@@ -7,7 +7,9 @@ pub mod Won
 pub mod Chosen
 pub mod Kept
 pub mod Laws
+pub mod Rules
 pub mod Mended
+pub mod Intact
 pub mod Frame
 pub mod Refused
 pub mod Parent

@@ -14,6 +14,8 @@ ghost use Rattle.udf_tree_model.specs.Laws.{FallAway, HasSoundStarts, IsOffer, I
 ghost use Rattle.udf_tree_model.specs.Link.{Link, target_of};
 ghost use Rattle.udf_tree_model.specs.Chosen.{Rank, chosen, comes_before, fitted, rank_of};
 ghost use Rattle.udf_tree_model.specs.Reads.{HasSameReads};
+ghost use Rattle.udf_tree_model.specs.Mended.{IsMended, IsSettled};
+ghost use Rattle.udf_tree_model.specs.Intact.{IsIntactPath, LeadsAlike};
 ghost use Rattle.udf_tree_model.specs.Kept.{depth, kept, kept_graph};
 ghost use Rattle.udf_tree_model.specs.Won.{IsFree, IsUnrivalled, IsWant, kept_length, sound, wins};
 
@@ -87,4 +89,14 @@ pub fn reads_law()
     ensures trees { (s : Setting) (t u : Tree) → IsWithin s t → SameSought s t u → SameSurvey s t u }
     ensures disks { (f : Frame) (v : Volume) (disk : ℕ → List ℕ) → HasSameReads f v disk
         → SameSurvey (setting_of f v) (tree_of f v) (tree_of f (with_disk v disk)) }
+{}
+
+/// In a tree that has each kept entry mended, and whatever else, what is found is what was kept, and it is kept as it stands: it
+/// wins all that it wants, each of its links is selected and fits, and no rule on links is broken. Such a tree is its own mend.
+/// A path from a kept entry that no damage touches leads to the same entry before and after.
+pub fn files_law()
+    ensures settled { (s : Setting) (t u : Tree) → IsMended s t u → IsSettled s t u }
+    ensures again { (s : Setting) (t u : Tree) → IsMended s t u → PlacesDiffer u → IsMended s u u }
+    ensures paths { (s : Setting) (t u : Tree) → IsMended s t u → (names : List (List ℕ)) (a : Addr) → kept s t a ≡ true
+        → IsIntactPath s t a names → LeadsAlike s t u a names }
 {}
