@@ -11,3 +11,4 @@ pub mod Same
 pub mod Reading
 pub mod Settling
 pub mod Paths
+pub mod Stating

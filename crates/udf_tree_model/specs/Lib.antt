@@ -17,3 +17,4 @@ pub mod Content
 pub mod Counts
 pub mod Claimed
 pub mod Reads
+pub mod Stated
