@@ -70,7 +70,7 @@ id_by (Some e) = e.id
 abbrev pub id_of : Volume → Addr → ℕ
 id_of v a = id_by (entry_at v a)
 
--- UDF 2.3.6.7: the root has 0, and those from 1 to 15 are reserved
+-- UDF 2.3.6.7 and 3.2.1.1: the root has 0, and those from 1 to 15 are reserved
 abbrev pub is_lawful_id : ℕ → Bool
 is_lawful_id id = nat_le 16 id && nat_lt id (2 ^ 63)
 

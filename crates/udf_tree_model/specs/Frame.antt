@@ -116,8 +116,8 @@ stream_of (Some long) = pointed long
 unfoldable pub links_of : ℕ → Entry → List ℕ → List Link
 links_of size e content = pointer_links (stream_of e.stream) ++ fid_links size content
 
--- the bytes that a content may have which grows in place: an embedded one as many as stand there, else those up to the end of the
--- first descriptor of part blocks
+-- the bytes that a content may have: an embedded one as many as stand there, else those up to the end of the first descriptor
+-- of part blocks
 unfoldable pub capacity : ℕ → Entry → List Piece → ℕ
 capacity size e pieces = if e.kind == 3 then length e.body else to_part size pieces
 
