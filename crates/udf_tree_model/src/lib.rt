@@ -37,8 +37,9 @@ pub fn found_law()
         → (is_address a ≡ true) × (is_placed v a ≡ true) }
 {}
 
-/// But for the file set, where it names a system stream directory, the node of a readable entry is what its block tells: it takes the block and the addresses of its list,
-/// each once, and its good length is that of the list. Where the volume is not refused each start is a sound directory.
+/// But for the file set, where it names a system stream directory, the node of a readable entry is what its block tells: it
+/// takes the block and the addresses of its list, each once, and its good length is that of the list. Where the volume is not
+/// refused each start is a sound directory.
 pub fn volume_law()
     ensures node { (f : Frame) (v : Volume) (a : Addr) (e : Entry) → entry_at v a ≡ Some e → is_holder f v a ≡ false
         → tree_of f v a ≡ Some (node_with f v a e (list_for v a e)) }
