@@ -1,0 +1,15 @@
+pub mod Members
+pub mod Reached
+pub mod Places
+pub mod Finding
+pub mod Winning
+pub mod Linking
+pub mod Keeping
+pub mod Choosing
+pub mod Offsets
+pub mod Same
+pub mod Reading
+pub mod Settling
+pub mod Paths
+pub mod Stating
+pub mod Parents
