@@ -5,13 +5,13 @@ use Rattle.std.specs.List.{list_any, list_all, filter}
 use Rattle.std.proofs.lemmas.Bool.{and_parts, and_from, or_right}
 use Rattle.udf_field.specs.declared.address.Addr.{Addr}
 use Rattle.udf_tree_model.specs.Link.{Link, Says, target_of, name_of, is_pointer}
-use Rattle.udf_tree_model.specs.Node.{Item, Tree, Setting, readable, node_at, good_length, wants}
+use Rattle.udf_tree_model.specs.Node.{Item, Tree, Setting, readable, node_at, good_length, wants, is_entry, is_none_of}
 use Rattle.udf_tree_model.specs.Rounds.{in_round, reached}
 use Rattle.udf_tree_model.specs.Found.{leads_to, whole_links, found_graph, found}
 use Rattle.udf_tree_model.specs.Won.{wins, kept_length, sound, kept_links, IsWant}
 use Rattle.udf_tree_model.specs.Chosen.{Rank, first_of_names, named, rank_of, ranks_over, chosen, is_rank, selects, selected, fit, fitted}
 use Rattle.udf_tree_model.specs.Kept.{kept_graph, kept}
-use Rattle.udf_tree_model.specs.Rules.{targets_hold, names_hold, is_named, is_chosen}
+use Rattle.udf_tree_model.specs.Rules.{targets_hold, names_hold, is_named, is_chosen, is_directory_entry}
 use Rattle.udf_tree_model.specs.Laws.{PlacesDiffer, SameWant, FallAway}
 use Rattle.udf_tree_model.specs.Mended.{said, IsMendedAt, IsMended, IsSettled}
 use Rattle.udf_tree_model.proofs.Members.{Member, member_of, contains_of, any_gives, any_from, all_at, all_from, member_append, member_left, member_right, filter_all, same_bools}
@@ -198,15 +198,45 @@ module _ (s : Setting) (t u : Tree) (m : IsMended s t u) where
   kept_is_kept a = sym (kept_again (length s.places) a)
 
   -- the rules on the links of the mended tree
+  -- the target of a link in the mended tree is an entry
+  target_entry : (d : Addr) → kept s t d ≡ true → (f : Link) → Member f (whole_links u d) → is_entry s u (target_of f.says) ≡ true
+  unfolding is_entry
+  target_entry d h f p = go (node_at u (target_of f.says)).directory refl
+    where
+      there : kept s t (target_of f.says) ≡ true
+      there = let a = old_link d h f p in subst (λ (z : Says). kept s t (target_of z) ≡ true) (sym a.2) (keeps d a.0 h a.1)
+
+      no_start : (b c : Bool) → b ≡ false → not (b && c) ≡ true
+      no_start false c e = refl
+      no_start true c e = absurd (cc)
+
+      not_true : (b : Bool) → not b ≡ true → b ≡ false
+      not_true false e = refl
+      not_true true e = absurd (cc)
+
+      file : (node_at u (target_of f.says)).directory ≡ false → (b : Bool) → s.start (target_of f.says) ≡ b → s.start (target_of f.says) ≡ false
+      file e false h = h
+      file e true h = absurd (let k : false ≡ true = sym e ∙ (m.each (target_of f.says) there).same_kind ∙ m.old_starts.directories (target_of f.says) h in cc)
+
+      go : (b : Bool) → (node_at u (target_of f.says)).directory ≡ b → not (s.start (target_of f.says) && is_none_of (node_at u (target_of f.says)).own) ≡ true
+      go true e =
+          let r = selects_chosen s u d f (target_of f.says) refl e (stays_selected d h f p) in
+          no_start (s.start (target_of f.says)) _ (not_true (s.start (target_of f.says)) r.0)
+      go false e = no_start (s.start (target_of f.says)) _ (file e (s.start (target_of f.says)) refl)
+
   stays_targets : (d : Addr) → kept s t d ≡ true → targets_hold s u d ≡ true
   unfolding targets_hold
-  stays_targets d h = all_from (λ f. is_pointer f.says || sound s u (target_of f.says)) (kept_links s u d) (λ f p. or_right (is_pointer f.says) (sound s u (target_of f.says)) (selects_sound s u d f (stays_selected d h f (subst (λ (l : List Link). Member f l) (links_whole d h) p))))
+  stays_targets d h =
+      all_from (λ f. is_pointer f.says || (sound s u (target_of f.says) && is_entry s u (target_of f.says))) (kept_links s u d) (λ f p.
+      let q : Member f (whole_links u d) = subst (λ (l : List Link). Member f l) (links_whole d h) p in
+      or_right (is_pointer f.says) (sound s u (target_of f.says) && is_entry s u (target_of f.says))
+      (and_from _ _ (selects_sound s u d f (stays_selected d h f q)) (target_entry d h f q)))
 
   stays_names : (d : Addr) → kept s t d ≡ true → names_hold s u d ≡ true
   unfolding names_hold
-  stays_names d h = all_from (λ f. is_pointer f.says || (is_named s u d f && (not (node_at u (target_of f.says)).directory || is_chosen s u d f))) (kept_links s u d) each
+  stays_names d h = all_from (λ f. is_pointer f.says || (is_named s u d f && (not (is_directory_entry s u (target_of f.says)) || is_chosen s u d f))) (kept_links s u d) each
     where
-      each : (f : Link) → Member f (kept_links s u d) → (is_pointer f.says || (is_named s u d f && (not (node_at u (target_of f.says)).directory || is_chosen s u d f))) ≡ true
+      each : (f : Link) → Member f (kept_links s u d) → (is_pointer f.says || (is_named s u d f && (not (is_directory_entry s u (target_of f.says)) || is_chosen s u d f))) ≡ true
       each f p = or_right (is_pointer f.says) _ (and_from (is_named s u d f) _ first (go (node_at u (target_of f.says)).directory refl))
         where
           q : Member f (whole_links u d)
@@ -215,9 +245,16 @@ module _ (s : Setting) (t u : Tree) (m : IsMended s t u) where
           first : is_named s u d f ≡ true
           first = any_from (λ g. g.place == f.place) (named s u d) f (subst (λ (l : List Link). Member f l) (sym (named_whole d h)) q) (eq-eqb f.place f.place refl)
 
-          go : (b : Bool) → (node_at u (target_of f.says)).directory ≡ b → (not b || is_chosen s u d f) ≡ true
-          go false e = refl
-          go true e = let r = selects_chosen s u d f (target_of f.says) refl e (stays_selected d h f q) in and_from _ _ r.0 r.1
+          -- where the target is a directory the link is its chosen one
+          either : (b e c : Bool) → b ≡ false → (not (b && e) || c) ≡ true
+          either false e c h = refl
+          either true e c h = absurd (cc)
+
+          go : (b : Bool) → (node_at u (target_of f.says)).directory ≡ b → (not (is_directory_entry s u (target_of f.says)) || is_chosen s u d f) ≡ true
+          go false e = either (node_at u (target_of f.says)).directory (is_entry s u (target_of f.says)) (is_chosen s u d f) e
+          go true e =
+              let r = selects_chosen s u d f (target_of f.says) refl e (stays_selected d h f q) in
+              or_right (not (is_directory_entry s u (target_of f.says))) (is_chosen s u d f) (and_from _ _ r.0 r.1)
 
   pub settled : IsSettled s t u
   settled = record {

@@ -1,14 +1,13 @@
 -- How many links a kept entry may state (ECMA-167 4/14.9.6), and the identifiers of kept entries (4/14.9.18).
-use Rattle.std.specs.Prelude.{ℕ, ◌+◌, ◌^◌, Bool, not, ◌&&◌, ◌==◌, nat_le, nat_lt, min, max, length, sum_by, count_by, filter, slice_index, List, Option, Some, None, if◌then◌else◌}
+use Rattle.std.specs.Prelude.{ℕ, ◌+◌, ◌^◌, Bool, false, not, ◌&&◌, ◌==◌, nat_le, nat_lt, min, max, length, sum_by, count_by, filter, slice_index, List, Option, Some, None, if◌then◌else◌}
 use Rattle.std.specs.List.{list_any, range_with_len}
 use Rattle.udf_field.specs.declared.address.Addr.{Addr}
 use Rattle.udf_file_model.specs.Address.{same_addr}
-use Rattle.udf_file_model.specs.Entry.{Entry}
+use Rattle.udf_file_model.specs.Entry.{Entry, is_directory}
 use Rattle.udf_file_model.specs.Listing.{Volume}
 use Rattle.udf_file_model.specs.Fid.{is_parent, target}
 use Rattle.udf_file_model.specs.Scan.{fids, fids_of}
 use Rattle.udf_tree_model.specs.Link.{is_pointer}
-use Rattle.udf_tree_model.specs.Node.{node_at}
 use Rattle.udf_tree_model.specs.Found.{leads_to}
 use Rattle.udf_tree_model.specs.Chosen.{fitted, is_lower}
 use Rattle.udf_tree_model.specs.Kept.{kept}
@@ -16,8 +15,13 @@ use Rattle.udf_tree_model.specs.Frame.{Frame, entry_at, places, setting_of, tree
 use Rattle.udf_tree_model.specs.Parent.{is_stream_directory, ordinary}
 use Rattle.udf_tree_model.specs.Content.{mended_content}
 
+abbrev pub is_directory_by : Option Entry → Bool
+is_directory_by None = false
+is_directory_by (Some e) = is_directory e
+
+-- an entry that is kept and is a directory; the file set is none, though it holds a pointer
 abbrev pub is_kept_directory : Frame → Volume → Addr → Bool
-is_kept_directory f v d = kept (setting_of f v) (tree_of f v) d && (node_at (tree_of f v) d).directory
+is_kept_directory f v d = kept (setting_of f v) (tree_of f v) d && is_directory_by (entry_at v d)
 
 abbrev pub is_stream : Frame → Volume → Addr → Bool
 is_stream f v d = is_stream_directory (setting_of f v) (tree_of f v) d

@@ -1,5 +1,5 @@
 -- What is read of a volume before files are told apart: a node for each address at which a readable entry stands.
-use Rattle.std.specs.Prelude.{ℕ, ◌+◌, Bool, false, List, [], ◌∷◌, ◌++◌, Option, Some, None, is_some}
+use Rattle.std.specs.Prelude.{ℕ, ◌+◌, Bool, true, false, not, ◌&&◌, List, [], ◌∷◌, ◌++◌, Option, Some, None, is_some}
 use Rattle.udf_field.specs.declared.address.Addr.{Addr}
 use Rattle.udf_tree_model.specs.Link.{Link}
 
@@ -61,3 +61,11 @@ good_length t a = bytes_of (node_at t a).list
 -- all that an entry wants
 unfoldable pub wants : Tree → Addr → List Item
 wants t a = (node_at t a).own ++ (node_at t a).list
+
+abbrev pub is_none_of : List Item → Bool
+is_none_of [] = true
+is_none_of (i ∷ is) = false
+
+-- an entry has a block of its own; the holder of the pointer to the system stream directory is a start without one
+unfoldable pub is_entry : Setting → Tree → Addr → Bool
+is_entry s t a = not (s.start a && is_none_of (node_at t a).own)
