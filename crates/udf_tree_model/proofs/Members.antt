@@ -4,11 +4,7 @@ use Rattle.std.specs.Prelude.{Contains}
 use Rattle.std.specs.List.{list_any, list_all, filter}
 use Rattle.udf_field.specs.declared.address.Addr.{Addr}
 use Rattle.std.proofs.lemmas.Bool.{and_parts, and_from, or_cases, or_left, or_right, false≢true}
-
--- x stands in the list
-abbrev pub Member : {X : Type 0} → X → List X → Type 0
-Member x [] = ⊥
-Member x (y ∷ ys) = (x ≡ y) ⊎ Member x ys
+pub use Rattle.udf_tree_model.specs.Among.{Member}
 
 pub member_of : {X : Type 0} (xs : List X) (x : X) → Contains xs x → Member x xs
 member_of [] x (k, low, e) = absurd (omega (arith, low))

@@ -1,4 +1,5 @@
 -- Which files a volume has, what they own, and what of them is kept.
+pub mod Among
 pub mod Link
 pub mod Node
 pub mod Rounds

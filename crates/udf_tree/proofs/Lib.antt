@@ -1,0 +1,4 @@
+pub mod Targets
+pub mod Told
+pub mod Queueing
+pub mod Visiting

@@ -1,0 +1,5 @@
+pub mod Target
+pub mod Read
+pub mod Spot
+pub mod Visit
+pub mod Order
