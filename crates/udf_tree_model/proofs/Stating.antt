@@ -17,7 +17,7 @@ use Rattle.udf_file_model.proofs.Local.{list_embedded}
 use Rattle.udf_tree_model.specs.Node.{Item, Node, Tree, Setting, readable, node_at, node_or, wants, bytes_of, good_length as tree_length}
 use Rattle.udf_tree_model.specs.Won.{wins, kept_length, sound}
 use Rattle.udf_tree_model.specs.Found.{found_graph, found}
-use Rattle.udf_tree_model.specs.Frame.{Frame, empty_item, is_address, block_item, run_items, items, items_of, extent_class, block_class, is_barred, node_with, node_by, holder_node, holder_by, is_file_set, entry_at, tree_of, setting_of, is_start}
+use Rattle.udf_tree_model.specs.Frame.{Frame, empty_item, is_address, block_item, run_items, items, items_of, extent_class, block_class, is_barred, node_with, node_by, holder_node, holder_by, is_file_set, is_holder, entry_at, tree_of, setting_of, is_start}
 use Rattle.udf_tree_model.specs.Stated.{taken, IsFileSetPlaced}
 use Rattle.udf_tree_model.specs.Refused.{Strategy, ExtendedDescriptors, AttributeFile, RootDirectory, passes, refusal, has_root}
 use Rattle.udf_tree_model.specs.Laws.{HasSoundStarts}
@@ -121,20 +121,21 @@ module _ (size class : ℕ) (barred : Addr → Bool) (some : 0 < size) where
 number_is : (x y : ℕ) → (x == y) ≡ true → x ≡ y
 number_is x y t = grind (arith, nat_tests)
 
-module _ (f : Frame) (v : Volume) (a : Addr) (e : Entry) (there : entry_at v a ≡ Some e) (other : same_addr a f.file_set ≡ false) where
-  -- but for the file set the node of an entry is what its block tells
+-- but for the holder of that pointer the node of an address is that of its entry
+pub entry_node : (f : Frame) (v : Volume) (a : Addr) → is_holder f v a ≡ false → tree_of f v a ≡ node_by f v a (entry_at v a)
+unfolding tree_of is_holder
+entry_node f v a h = by_holder f.system (is_file_set f v a) h
+  where
+    by_holder : (o : Option Addr) (b : Bool) → (is_some o && b) ≡ false → holder_by o b (node_by f v a (entry_at v a)) ≡ node_by f v a (entry_at v a)
+    by_holder None b k = refl
+    by_holder (Some x) true k = absurd (false≢true (sym k))
+    by_holder (Some x) false k = refl
+
+module _ (f : Frame) (v : Volume) (a : Addr) (e : Entry) (there : entry_at v a ≡ Some e) (other : is_holder f v a ≡ false) where
   pub is_node : tree_of f v a ≡ Some (node_with f v a e (list_for v a e))
-  unfolding tree_of
-  is_node = by_holder f.system ∙ ap (node_by f v a) there
-    where
-      off : is_file_set f v a ≡ false
-      off = ap (λ (b : Bool). b && (is_address a && is_placed v a)) other
+  is_node = entry_node f v a other ∙ ap (node_by f v a) there
 
-      by_holder : (o : Option Addr) → holder_by o (is_file_set f v a) (node_by f v a (entry_at v a)) ≡ node_by f v a (entry_at v a)
-      by_holder None = refl
-      by_holder (Some x) = ap (λ (b : Bool). cond b (Some (holder_node x)) (node_by f v a (entry_at v a))) off
-
-  node_is : node_at (tree_of f v) a ≡ node_with f v a e (list_for v a e)
+  pub node_is : node_at (tree_of f v) a ≡ node_with f v a e (list_for v a e)
   unfolding node_at
   node_is = ap node_or is_node
 

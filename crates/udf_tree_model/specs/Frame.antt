@@ -164,6 +164,10 @@ holder_by (Some system) here other = if here then Some (holder_node system) else
 abbrev pub is_file_set : Frame → Volume → Addr → Bool
 is_file_set f v a = same_addr a f.file_set && (is_address a && is_placed v a)
 
+-- the file set stands at the address, and holds a pointer to the system stream directory
+unfoldable pub is_holder : Frame → Volume → Addr → Bool
+is_holder f v a = is_some f.system && is_file_set f v a
+
 -- the tree of a volume
 unfoldable pub tree_of : Frame → Volume → Tree
 tree_of f v a = holder_by f.system (is_file_set f v a) (node_by f v a (entry_at v a))

@@ -6,14 +6,13 @@
 ghost use Rattle.std.specs.Prelude.{◌≡◌, ◌≢◌, ◌<◌, ◌≤◌, ◌↔◌, ◌⊎◌, ◌∷◌, ℕ, List, AllPairs, Contains, Some, None, true, false};
 ghost use Rattle.udf_field.specs.declared.address.Addr.{Addr};
 ghost use Rattle.udf_file_model.specs.Listing.{Volume, addresses, good_length as entry_length, is_placed, list_for, with_disk};
-ghost use Rattle.udf_file_model.specs.Address.{same_addr};
 ghost use Rattle.udf_file_model.specs.Entry.{Entry};
 ghost use Rattle.udf_tree_model.specs.Stated.{IsFileSetPlaced, taken};
 ghost use Rattle.udf_tree_model.specs.Refused.{refusal};
 ghost use Rattle.udf_tree_model.specs.Node.{Item, Setting, Tree, good_length, node_at, readable, wants};
 ghost use Rattle.udf_tree_model.specs.Rounds.{IsLeastClosed, IsShortest, in_round};
 ghost use Rattle.udf_tree_model.specs.Found.{found, found_graph, level};
-ghost use Rattle.udf_tree_model.specs.Frame.{Frame, entry_at, is_address, node_with, setting_of, tree_of};
+ghost use Rattle.udf_tree_model.specs.Frame.{Frame, entry_at, is_address, is_holder, node_with, setting_of, tree_of};
 ghost use Rattle.udf_tree_model.specs.Laws.{FallAway, HasSoundStarts, IsOffer, IsWithin, KeepsBy, PlacesDiffer, SameSought, SameSurvey, SameWant};
 ghost use Rattle.udf_tree_model.specs.Link.{Link, target_of};
 ghost use Rattle.udf_tree_model.specs.Chosen.{Rank, chosen, comes_before, fitted, rank_of};
@@ -38,16 +37,16 @@ pub fn found_law()
         → (is_address a ≡ true) × (is_placed v a ≡ true) }
 {}
 
-/// But for the file set the node of a readable entry is what its block tells: it takes the block and the addresses of its list,
+/// But for the file set, where it names a system stream directory, the node of a readable entry is what its block tells: it takes the block and the addresses of its list,
 /// each once, and its good length is that of the list. Where the volume is not refused each start is a sound directory.
 pub fn volume_law()
-    ensures node { (f : Frame) (v : Volume) (a : Addr) (e : Entry) → entry_at v a ≡ Some e → same_addr a f.file_set ≡ false
+    ensures node { (f : Frame) (v : Volume) (a : Addr) (e : Entry) → entry_at v a ≡ Some e → is_holder f v a ≡ false
         → tree_of f v a ≡ Some (node_with f v a e (list_for v a e)) }
-    ensures taken { (f : Frame) (v : Volume) (a : Addr) (e : Entry) → entry_at v a ≡ Some e → same_addr a f.file_set ≡ false
+    ensures taken { (f : Frame) (v : Volume) (a : Addr) (e : Entry) → entry_at v a ≡ Some e → is_holder f v a ≡ false
         → 0 < v.size → taken (wants (tree_of f v) a) ≡ a ∷ addresses v.size (list_for v a e) }
-    ensures once { (f : Frame) (v : Volume) (a : Addr) (e : Entry) → entry_at v a ≡ Some e → same_addr a f.file_set ≡ false
+    ensures once { (f : Frame) (v : Volume) (a : Addr) (e : Entry) → entry_at v a ≡ Some e → is_holder f v a ≡ false
         → 0 < v.size → AllPairs (λ x y. x ≢ y) (taken (wants (tree_of f v) a)) }
-    ensures length { (f : Frame) (v : Volume) (a : Addr) (e : Entry) → entry_at v a ≡ Some e → same_addr a f.file_set ≡ false
+    ensures length { (f : Frame) (v : Volume) (a : Addr) (e : Entry) → entry_at v a ≡ Some e → is_holder f v a ≡ false
         → 0 < v.size → good_length (tree_of f v) a ≡ entry_length v a e }
     ensures starts { (f : Frame) (v : Volume) → refusal f v ≡ None → IsFileSetPlaced f v
         → HasSoundStarts (setting_of f v) (tree_of f v) }
