@@ -2,3 +2,4 @@ pub mod Targets
 pub mod Told
 pub mod Queueing
 pub mod Visiting
+pub mod Adding

@@ -1,5 +1,5 @@
 -- What the calls that read an entry tell.
-use Rattle.std.proofs.Common.{◌≡◌, ℕ, ◌<◌, List, [], ◌++◌, Bool, true, false, cond, ◌&&◌, Option, Some, None, Result, Ok, Err, IfOk, refl, sym, ap, ◌∙◌, arith}
+use Rattle.std.proofs.Common.{subst, ◌≡◌, ℕ, ◌<◌, List, [], ◌++◌, Bool, true, false, cond, ◌&&◌, Option, Some, None, Result, Ok, Err, IfOk, refl, sym, ap, ◌∙◌, arith}
 use Rattle.std.specs.Prelude.{◌==◌, nat_lt}
 use Rattle.std.proofs.lemmas.Bool.{and_parts, and_from}
 use Rattle.std.proofs.lemmas.Bool.Decides.{nat_tests}
@@ -12,6 +12,7 @@ use Rattle.udf_file_model.specs.Content.{content, content_by}
 use Rattle.udf_tree_model.specs.Frame.{stream_of, links_of, content_to, entry_at, entry_by as entry_placed, is_address}
 use Rattle.udf_field.specs.declared.address.Long.{Long}
 use Rattle.udf_tree_model.specs.Link.{fid_links, pointer_links}
+use Rattle.udf_tree.specs.Read.{Reads}
 use Rattle.udf_tree.specs.Target.{entry_targets, linking, targets_of}
 
 pub ok_more : {T E : Type 0} (r : Result T E) (P Q : T → Type 0) → ((x : T) → P x → Q x) → IfOk r P → IfOk r Q
@@ -75,3 +76,6 @@ unfolding entry_targets links_of
 targets_are v a e stream bytes s b =
     ap (λ (o : Option Long). targets_of (pointer_links (stream_of o) ++ fid_links v.size bytes)) s
     ∙ ap (λ (c : List ℕ). targets_of (pointer_links (stream_of e.stream) ++ fid_links v.size c)) b
+
+pub reads_some : (v : Volume) (a : Addr) (o : Option (List Addr)) (ts : List Addr) → o ≡ Some ts → Reads v a o → (e : Entry) × (entry_at v a ≡ Some e) × (ts ≡ entry_targets v a e)
+reads_some v a o ts e r = subst (Reads v a) e r

@@ -3,3 +3,4 @@ pub mod Read
 pub mod Spot
 pub mod Visit
 pub mod Order
+pub mod Seen

@@ -4,5 +4,6 @@
 #![tactic(auto)]
 
 mod arena;
+mod find;
 mod reading;
 mod target;
