@@ -3,3 +3,4 @@ pub mod Told
 pub mod Queueing
 pub mod Visiting
 pub mod Adding
+pub mod Going

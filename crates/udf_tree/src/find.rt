@@ -8,8 +8,8 @@ ghost use Rattle.udf_outside.specs.Reads.{OnlyReads};
 ghost use Rattle.udf_outside.specs.declared.bench.Role.TheVariants.{Image};
 ghost use Rattle.udf_file_model.specs.Listing.{volume_of};
 ghost use Rattle.udf_tree_model.specs.Frame.{Frame, places, tree_of};
-ghost use Rattle.udf_tree.specs.Visit.{Adds};
-ghost use Rattle.udf_tree.specs.Seen.{AreRead, HasHolder, spots};
+ghost use Rattle.udf_tree.specs.Visit.{Adds, IsPlaced};
+ghost use Rattle.udf_tree.specs.Seen.{AreRead, HasHolder, IsAt, spots};
 
 use crate::arena::{Arena, Found};
 use crate::reading::read_targets;
@@ -49,6 +49,38 @@ fn add<B: Bench, P: Parts>(
     }
     if let Some(targets) = read_targets(alloc, bench, parts, size, at, room)? {
         arena.push(Found { at, level, targets })?;
+    }
+    Ok(())
+}
+
+// Adds what the links of the entry at an index lead to. `room` is lent and has the block size.
+fn add_targets<B: Bench, P: Parts>(
+    alloc: Global,
+    bench: &mut B,
+    parts: &P,
+    size: u32,
+    arena: &mut Arena,
+    next: usize,
+    room: &mut [u8],
+) -> Result<(), ListStop>
+    requires attached { IsAttached Image (B.files bench.old) }
+    requires size { is_size size ≡ true }
+    requires placed { (a : Addr) (s : ℕ) → P.place parts.now a ≡ Some s → s < (B.files bench.old).image.size / size }
+    requires room { length room.old ≡ size }
+    requires inside { next < length arena.old }
+    requires levels { IsPlaced (places (volume_of size (bytes_of Image (B.held bench.old)) (P.place parts.now))) (spots arena.old) }
+    ensures levels { OnOk result (IsPlaced (places (volume_of size (bytes_of Image (B.held bench.old)) (P.place parts.now))) (spots arena.new)) }
+    ensures grows { OnOk result (length arena.old ≤ length arena.new) }
+    ensures visits { B.tells → (f : Frame) → IsAt f (volume_of size (bytes_of Image (B.held bench.old)) (P.place parts.now)) next arena.old
+        → OnOk result (IsAt f (volume_of size (bytes_of Image (B.held bench.old)) (P.place parts.now)) (next + 1) arena.new) }
+    ensures room { length room.new ≡ length room.old }
+    ensures reads { OnlyReads B.files B.held B.faults bench.old bench.new ListStop.Fault result }
+{
+    let node = arena.node(next);
+    let level = node.level;
+    let targets = Vec::from_slice(alloc, &node.targets)?;
+    for target in &targets {
+        add(alloc, bench, parts, size, arena, *target, level + 1, room)?;
     }
     Ok(())
 }
