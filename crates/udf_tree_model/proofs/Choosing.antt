@@ -118,7 +118,7 @@ before_one : (x y : Rank) → comes_before x y ≡ true → comes_before y x ≡
 unfolding comes_before
 before_one x y h = grind (arith, nat_tests)
 
-none_first : (xs : List Rank) (y : Rank) → first_rank xs ≡ None → Member y xs → ⊥
+pub none_first : (xs : List Rank) (y : Rank) → first_rank xs ≡ None → Member y xs → ⊥
 unfolding first_rank
 none_first [] y e m = m
 none_first (z ∷ zs) y e m = cc

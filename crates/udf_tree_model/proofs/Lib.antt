@@ -12,3 +12,4 @@ pub mod Reading
 pub mod Settling
 pub mod Paths
 pub mod Stating
+pub mod Parents

@@ -20,6 +20,7 @@ ghost use Rattle.udf_tree_model.specs.Reads.{HasSameReads};
 ghost use Rattle.udf_tree_model.specs.Mended.{IsMended, IsSettled};
 ghost use Rattle.udf_tree_model.specs.Intact.{IsIntactPath, LeadsAlike};
 ghost use Rattle.udf_tree_model.specs.Kept.{depth, kept, kept_graph};
+ghost use Rattle.udf_tree_model.specs.Parent.{keeping, keeping_rank};
 ghost use Rattle.udf_tree_model.specs.Won.{IsFree, IsUnrivalled, IsWant, kept_length, sound, wins};
 
 /// What is found is the least set that has each readable start, and with an entry the readable targets of its links; rounds
@@ -37,8 +38,9 @@ pub fn found_law()
         → (is_address a ≡ true) × (is_placed v a ≡ true) }
 {}
 
-/// But for the file set, where it names a system stream directory, the node of a readable entry is what its block tells: it takes the block and the addresses of its list,
-/// each once, and its good length is that of the list. Where the volume is not refused each start is a sound directory.
+/// But for the file set, where it names a system stream directory, the node of a readable entry is what its block tells: it
+/// takes the block and the addresses of its list, each once, and its good length is that of the list. Where the volume is not
+/// refused each start is a sound directory.
 pub fn volume_law()
     ensures node { (f : Frame) (v : Volume) (a : Addr) (e : Entry) → entry_at v a ≡ Some e → is_holder f v a ≡ false
         → tree_of f v a ≡ Some (node_with f v a e (list_for v a e)) }
@@ -98,6 +100,19 @@ pub fn kept_law()
     ensures starts { (s : Setting) (t : Tree) → HasSoundStarts s t → (a d : Addr) (f : Link) → KeepsBy s t a d f
         → s.start a ≡ false }
     ensures differ { (f : Frame) (v : Volume) → PlacesDiffer (tree_of f v) }
+{}
+
+/// The link that keeps an entry, whose holder is its parent, is the first of all fitted links by which kept entries lead to it, and
+/// there is none only where no such link is. To a directory there is one such link.
+pub fn parent_law()
+    ensures by { (s : Setting) (t : Tree) (a : Addr) (x : Rank) → keeping s t a ≡ Some x
+        → (d : Addr) × (f : Link) × KeepsBy s t a d f × (x ≡ keeping_rank s t d f) }
+    ensures first { (s : Setting) (t : Tree) → IsWithin s t → HasSoundStarts s t → (a : Addr) (x : Rank) → keeping s t a ≡ Some x
+        → (d : Addr) (f : Link) → KeepsBy s t a d f → comes_before (keeping_rank s t d f) x ≡ false }
+    ensures none { (s : Setting) (t : Tree) → IsWithin s t → HasSoundStarts s t → (a : Addr) → keeping s t a ≡ None
+        → (d : Addr) (f : Link) → KeepsBy s t a d f → ⊥ }
+    ensures directory { (s : Setting) (t : Tree) → IsWithin s t → HasSoundStarts s t → PlacesDiffer t → (a d : Addr) (f : Link)
+        → KeepsBy s t a d f → (node_at t a).directory ≡ true → keeping s t a ≡ Some (keeping_rank s t d f) }
 {}
 
 /// What is found and kept rests on the blocks of the addresses at which entries are sought, of the allocation extents of found
