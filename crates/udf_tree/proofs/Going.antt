@@ -46,7 +46,7 @@ arena_grows tells t ps a l old new h = go h.goes h.is
     go true e = let k = ap length e in omega (arith, k, length-append (spots old) (spot a l ∷ []), long old, long new)
     go false e = let k = ap length e in omega (arith, k, long old, long new)
 
-holder_stays : (tells : Type 0) (f : Frame) (v : Volume) (t : Tree) (ps : List Addr) (a : Addr) (l : ℕ) (old new : List Found) → Adds tells t ps a l (spots old) (spots new) → HasHolder f v old → HasHolder f v new
+pub holder_stays : (tells : Type 0) (f : Frame) (v : Volume) (t : Tree) (ps : List Addr) (a : Addr) (l : ℕ) (old new : List Found) → Adds tells t ps a l (spots old) (spots new) → HasHolder f v old → HasHolder f v new
 holder_stays tells f v t ps a l old new h k = record { known = λ b e. known_is b new ∙ go b (sym (known_is b old) ∙ k.known b e) h.goes h.is }
   where
     go : (b : Addr) → knows b (spots old) ≡ true → (c : Bool) → spots new ≡ cond c (spots old ++ spot a l ∷ []) (spots old) → knows b (spots new) ≡ true

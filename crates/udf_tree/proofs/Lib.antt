@@ -4,3 +4,4 @@ pub mod Queueing
 pub mod Visiting
 pub mod Adding
 pub mod Going
+pub mod Beginning

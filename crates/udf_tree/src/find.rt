@@ -7,12 +7,15 @@ ghost use Rattle.udf_outside.specs.Stops.{bytes_of};
 ghost use Rattle.udf_outside.specs.Reads.{OnlyReads};
 ghost use Rattle.udf_outside.specs.declared.bench.Role.TheVariants.{Image};
 ghost use Rattle.udf_file_model.specs.Listing.{volume_of};
-ghost use Rattle.udf_tree_model.specs.Frame.{Frame, places, tree_of};
+ghost use Rattle.udf_tree_model.specs.Frame.{Frame, places, setting_of, tree_of};
+ghost use Rattle.udf_tree.specs.Begin.{HasStarts};
+ghost use Rattle.udf_tree.specs.Spot.{IsFoundList};
 ghost use Rattle.udf_tree.specs.Visit.{Adds, IsPlaced};
 ghost use Rattle.udf_tree.specs.Seen.{AreRead, HasHolder, IsAt, spots};
 
 use crate::arena::{Arena, Found};
 use crate::reading::read_targets;
+use crate::starts::{Starts, holder};
 use std::alloc::Global;
 use udf_entry::ListStop;
 use udf_field::Addr;
@@ -83,4 +86,35 @@ fn add_targets<B: Bench, P: Parts>(
         add(alloc, bench, parts, size, arena, *target, level + 1, room)?;
     }
     Ok(())
+}
+
+/// The found entries of a volume with blocks of `size` bytes, each once and with its level, in the order of levels: the root, the
+/// holder of the pointer to the system stream directory, and the readable targets of links of what is found. The block of each is
+/// read once, and the contents of directories alone. An error is a fault of the bench, or want of memory.
+pub fn find_entries<B: Bench, P: Parts>(
+    alloc: Global,
+    bench: &mut B,
+    parts: &P,
+    size: u32,
+    starts: Starts,
+) -> Result<Arena, ListStop>
+    requires attached { IsAttached Image (B.files bench.old) }
+    requires size { is_size size ≡ true }
+    requires placed { (a : Addr) (s : ℕ) → P.place parts.now a ≡ Some s → s < (B.files bench.old).image.size / size }
+    ensures found { B.tells → (f : Frame) → HasStarts f starts → IfOk result (λ arena. IsFoundList
+        (setting_of f (volume_of size (bytes_of Image (B.held bench.old)) (P.place parts.now)))
+        (tree_of f (volume_of size (bytes_of Image (B.held bench.old)) (P.place parts.now))) (spots arena)) }
+    ensures read { B.tells → (f : Frame) → HasStarts f starts → IfOk result (λ arena. AreRead
+        (tree_of f (volume_of size (bytes_of Image (B.held bench.old)) (P.place parts.now))) arena) }
+    ensures reads { OnlyReads B.files B.held B.faults bench.old bench.new ListStop.Fault result }
+{
+    let mut room = vec![in alloc; 0; size as usize]?;
+    let mut arena = holder(alloc, parts, starts.file_set, starts.system)?;
+    add(alloc, bench, parts, size, &mut arena, starts.root, 0, &mut room)?;
+    let mut next = 0;
+    while next < arena.len() {
+        add_targets(alloc, bench, parts, size, &mut arena, next, &mut room)?;
+        next += 1;
+    }
+    Ok(arena)
 }

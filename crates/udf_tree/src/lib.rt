@@ -6,4 +6,9 @@
 mod arena;
 mod find;
 mod reading;
+mod starts;
 mod target;
+
+pub use arena::{Arena, Found};
+pub use find::find_entries;
+pub use starts::Starts;
