@@ -4,7 +4,7 @@ use Rattle.std.specs.Prelude.{is_some, IsSome}
 use Rattle.std.specs.List.{list_any, IsDistinct, AllByRecursion}
 use Rattle.std.specs.Cmp.{IsEquivalence}
 use Rattle.std.proofs.lemmas.Bool.{and_parts, and_from, or_cases, or_left, or_right, false≢true}
-use Rattle.std.proofs.lemmas.List.{length-map, take_all, drop_all}
+use Rattle.std.proofs.lemmas.List.{length-append, length-map, length-take-le, take_all, drop_all}
 use Rattle.std.proofs.lemmas.Map.Made.{length-le_from_is_member}
 use Rattle.udf_field.specs.declared.address.Addr.{Addr}
 use Rattle.udf_file_model.specs.Address.{same_addr}
@@ -235,3 +235,7 @@ search_ends f v next q l p h =
 
     low : length (spots q) ≤ next
     low = let k = length-map q (λ (n : Found). spot n.at n.level) in omega (arith, k, l)
+
+-- a room that was lent keeps its length
+pub room_stays : (len : ℕ) (new old : List ℕ) → len ≡ length old → length new ≡ length old → length (take len (new ++ drop (length new) old)) ≡ len
+room_stays len new old whole same = length-take-le len (new ++ drop (length new) old) (let l = length-append new (drop (length new) old) in omega (arith, l, whole, same))

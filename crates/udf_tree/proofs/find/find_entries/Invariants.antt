@@ -12,7 +12,7 @@ abbrev pub invariant-loop-next : goal.invariant-loop-next
 invariant-loop-next g l = record {
   levels : IsPlaced (places (volume_of l.size (bytes_of Image (g.B.Bench.held l.initial.bench)) (g.P.Parts.place l.parts))) (spots l.arena);
   inside : l.next ≤ length l.arena;
-  visits : g.B.Bench.tells → (f : Frame) → HasStarts f l.starts → IsAt f (volume_of l.size (bytes_of Image (g.B.Bench.held l.initial.bench)) (g.P.Parts.place l.parts)) l.next l.arena;
+  visits : g.B.Bench.tells → (f : Frame) → HasStarts f l.fn.starts → IsAt f (volume_of l.size (bytes_of Image (g.B.Bench.held l.initial.bench)) (g.P.Parts.place l.parts)) l.next l.arena;
   room : length l.room.items ≡ l.size;
   files : g.B.Bench.files l.bench ≡ g.B.Bench.files l.initial.bench;
   held : g.B.Bench.held l.bench ≡ g.B.Bench.held l.initial.bench;
