@@ -1,6 +1,6 @@
 -- Where the search for entries begins and ends.
 use Rattle.std.proofs.Common.{◌≡◌, ◌⊎◌, ℕ, zero, suc, ◌≤◌, ◌<◌, List, [], ◌∷◌, ◌++◌, length, take, drop, get_or, Bool, true, false, cond, ◌&&◌, ◌||◌, Option, Some, None, refl, sym, ap, ◌∙◌, subst, inl, inr, arith}
-use Rattle.std.specs.Prelude.{is_some, IsSome}
+use Rattle.std.specs.Prelude.{is_some}
 use Rattle.std.specs.List.{list_any, IsDistinct, AllByRecursion}
 use Rattle.std.specs.Cmp.{IsEquivalence}
 use Rattle.std.proofs.lemmas.Bool.{and_parts, and_from, or_cases, or_left, or_right, false≢true}
@@ -10,8 +10,8 @@ use Rattle.udf_field.specs.declared.address.Addr.{Addr}
 use Rattle.udf_file_model.specs.Address.{same_addr}
 use Rattle.udf_file_model.specs.Listing.{Volume, is_placed}
 use Rattle.udf_tree_model.specs.Among.{Member}
-use Rattle.udf_tree_model.specs.Node.{Node, Tree, readable, node_at, node_or, good_length}
-use Rattle.udf_tree_model.specs.Rounds.{Graph, in_round}
+use Rattle.udf_tree_model.specs.Node.{Node, readable, node_at, node_or, good_length}
+use Rattle.udf_tree_model.specs.Rounds.{Graph}
 use Rattle.udf_tree_model.specs.Found.{found_graph, whole_links}
 use Rattle.udf_tree_model.specs.Frame.{Frame, entry_at, holder_by, holder_node, is_address, is_file_set, is_holder, is_start, node_by, places, setting_of, tree_of}
 use Rattle.udf_tree_model.proofs.Members.{any_gives, any_from, member_append, member_of_map, same_bools}

@@ -5,3 +5,4 @@ pub mod Visiting
 pub mod Adding
 pub mod Going
 pub mod Beginning
+pub mod TestParts

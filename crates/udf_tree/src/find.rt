@@ -110,7 +110,16 @@ pub fn find_entries<B: Bench, P: Parts>(
 {
     let mut room = vec![in alloc; 0; size as usize]?;
     let mut arena = holder(alloc, parts, starts.file_set, starts.system)?;
-    add(alloc, bench, parts, size, &mut arena, starts.root, 0, &mut room)?;
+    add(
+        alloc,
+        bench,
+        parts,
+        size,
+        &mut arena,
+        starts.root,
+        0,
+        &mut room,
+    )?;
     let mut next = 0;
     while next < arena.len() {
         add_targets(alloc, bench, parts, size, &mut arena, next, &mut room)?;

@@ -8,6 +8,8 @@ mod find;
 mod reading;
 mod starts;
 mod target;
+#[cfg(test)]
+mod tests;
 
 pub use arena::{Arena, Found};
 pub use find::find_entries;

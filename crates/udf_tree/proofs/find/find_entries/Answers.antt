@@ -1,4 +1,4 @@
-use Rattle.std.proofs.Common.{rules, ◌≡◌, ◌≤◌, ◌+◌, ℕ, List, length, arith, refl, sym, ap, ◌∙◌, subst, false}
+use Rattle.std.proofs.Common.{rules, ◌≡◌, ◌+◌, List, length, arith, refl, sym, ap, ◌∙◌, subst, false}
 use Rattle.udf_outside.specs.Stops.{bytes_of, Held}
 use Rattle.udf_outside.specs.declared.bench.Role.TheVariants.{Image}
 use Rattle.udf_file_model.specs.Address.{addr}
