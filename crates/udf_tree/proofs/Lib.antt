@@ -1,0 +1,8 @@
+pub mod Targets
+pub mod Told
+pub mod Queueing
+pub mod Visiting
+pub mod Adding
+pub mod Going
+pub mod Beginning
+pub mod TestParts
