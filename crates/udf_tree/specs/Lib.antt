@@ -4,3 +4,4 @@ pub mod Spot
 pub mod Visit
 pub mod Order
 pub mod Seen
+pub mod Identifiers

@@ -5,5 +5,8 @@
 
 mod arena;
 mod find;
+mod identifiers;
 mod reading;
 mod target;
+
+pub use crate::identifiers::{Identity, identifiers_law, wanted_identifiers};
