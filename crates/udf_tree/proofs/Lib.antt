@@ -7,3 +7,5 @@ pub mod Going
 pub mod Runs
 pub mod Filling
 pub mod Settling
+pub mod Ascending
+pub mod Numbering
