@@ -70,7 +70,7 @@ few_taken (None ∷ ids) a n = let c = count_one is_some None ids in let more = 
 few_taken (Some m ∷ ids) a n =
     let c = count_one is_some (Some m) ids in
     let e : count_by (λ q. list_any (is_id q) (Some m ∷ ids)) (range_with_len a n) ≤ count_by (λ q. nat_eq q m) (range_with_len a n) + count_by (λ q. list_any (is_id q) ids) (range_with_len a n)
-        = count_either (λ q. nat_eq q m) (λ q. list_any (is_id q) ids) (range_with_len a n) in
+    = count_either (λ q. nat_eq q m) (λ q. list_any (is_id q) ids) (range_with_len a n) in
     let one = one_in_run m a n in
     let more = few_taken ids a n in
     omega (arith, c, e, one, more)
@@ -81,7 +81,7 @@ some_or_none (None ∷ ids) = let h = some_or_none ids in let a = count_one is_s
 some_or_none (Some m ∷ ids) = let h = some_or_none ids in let a = count_one is_some (Some m) ids in let b = count_one is_none (Some m) ids in omega (arith, h, a, b)
 
 -- there is a free identifier for each that has none
-enough_free : (ids : List (Option ℕ)) → count_by is_none ids ≤ length (free_among ids)
+pub enough_free : (ids : List (Option ℕ)) → count_by is_none ids ≤ length (free_among ids)
 unfolding free_among
 enough_free ids =
     let run : List ℕ = range_with_len 16 (length ids) in

@@ -9,3 +9,4 @@ pub mod Filling
 pub mod Settling
 pub mod Ascending
 pub mod Numbering
+pub mod Differing

@@ -19,10 +19,10 @@ use Rattle.udf_tree.proofs.Filling.{count_one}
 use Rattle.udf_tree.proofs.Ascending.{Ascending, ordinary_ascend, any_lower, count_lower}
 
 -- the identifier of an ordinary entry that stays, where one does
-abbrev own : Frame → Volume → Addr → Option ℕ
+abbrev pub own : Frame → Volume → Addr → Option ℕ
 own f v a = if same_addr a f.root then Some 0 else (if keeps_id f v a then Some (id_of v a) else None)
 
-swap : (m n : ℕ) → nat_eq m n ≡ (n == m)
+pub swap : (m n : ℕ) → nat_eq m n ≡ (n == m)
 swap m n = go (nat_eq m n) (n == m) refl refl
   where
     go : (b c : Bool) → nat_eq m n ≡ b → (n == m) ≡ c → b ≡ c
@@ -95,7 +95,7 @@ length_own : (f : Frame) (v : Volume) (xs : List Addr) → length (map (own f v)
 length_own f v [] = refl
 length_own f v (x ∷ xs) = ap suc (length_own f v xs)
 
-free_is : (f : Frame) (v : Volume) → free_among (map (own f v) (ordinary_entries f v)) ≡ free_ids f v
+pub free_is : (f : Frame) (v : Volume) → free_among (map (own f v) (ordinary_entries f v)) ≡ free_ids f v
 unfolding free_among free_ids
 free_is f v =
     ap (λ (k : ℕ). filter (λ n. not (is_taken (map (own f v) (ordinary_entries f v)) n)) (range_with_len 16 k)) (length_own f v (ordinary_entries f v))
@@ -120,7 +120,7 @@ filled_one false false true id place p free rest ws t e h =
     ap (λ (n : ℕ). n ∷ filled rest (drop 1 (drop place free))) (get_or-drop place free 0 0 ∙ ap (λ (i : ℕ). get_or free i 0) same)
     ∙ ap (λ (r : List ℕ). slice_index free p ∷ r) (ap (filled rest) (drop-drop 1 place free) ∙ h)
 
-filled_is : (f : Frame) (v : Volume) (before after : List Addr) → ordinary_entries f v ≡ before ++ after → ((a : Addr) → Member a after → ordinary f v a ≡ true)
+pub filled_is : (f : Frame) (v : Volume) (before after : List Addr) → ordinary_entries f v ≡ before ++ after → ((a : Addr) → Member a after → ordinary f v a ≡ true)
     → filled (map (own f v) after) (drop (count_by (takes_id f v) before) (free_ids f v)) ≡ map (wanted_id f v) after
 unfolding wanted_id place_among_takers
 filled_is f v before [] e h = refl
@@ -131,7 +131,7 @@ filled_is f v before (a ∷ after) e h =
     filled_one (same_addr a f.root) (keeps_id f v a) (ordinary f v a) (id_of v a) (count_by (takes_id f v) before) (place_among_takers f v a) (free_ids f v) rest (map (wanted_id f v) after) (h a (inl refl)) turn
     (ap (λ (n : ℕ). filled rest (drop n (free_ids f v))) (sym (count_next (takes_id f v) before a)) ∙ more)
 
-are_ordinary : (f : Frame) (v : Volume) (a : Addr) → Member a (ordinary_entries f v) → ordinary f v a ≡ true
+pub are_ordinary : (f : Frame) (v : Volume) (a : Addr) → Member a (ordinary_entries f v) → ordinary f v a ≡ true
 unfolding ordinary_entries
 are_ordinary f v a m = (member_filter (ordinary f v) (places v) a m).1
 

@@ -1,8 +1,9 @@
 // The wanted identifiers of ordinary entries.
-ghost use Rattle.std.specs.Prelude.{◌≡◌, ◌<◌, ◌≤◌, ◌+◌, ◌^◌, ◌&&◌, ◌||◌, ℕ, true, false, map, length, IfOk, OnOk, nat_eq, not, if◌then◌else◌, Some, None};
+ghost use Rattle.std.specs.Prelude.{◌≡◌, ◌<◌, ◌≤◌, ◌+◌, ◌^◌, ◌&&◌, ◌||◌, ℕ, true, false, map, length, IfOk, OnOk, nat_eq, Contains, not, if◌then◌else◌, Some, None};
 ghost use Rattle.std.specs.List.{list_any};
 ghost use Rattle.std.specs.Ordering.{nat_cmp};
 ghost use Rattle.std.specs.BTreeSet.{contains, btree_set_len};
+ghost use Rattle.udf_field.specs.declared.address.Addr.{Addr};
 ghost use Rattle.udf_file_model.specs.Listing.{Volume};
 ghost use Rattle.udf_tree_model.specs.Frame.{Frame};
 ghost use Rattle.udf_tree_model.specs.Counts.{is_lawful_id, ordinary_entries, wanted_id};
@@ -120,10 +121,7 @@ fn fill(alloc: Global, ids: &[Option<u64>]) -> Result<Vec<u64>, AllocError>
 /// The wanted identifiers of the ordinary entries of a volume, in the order of their addresses: of the root 0; of another its
 /// own, where that is lawful and no entry before has it; else the least from 16 on that no entry keeps and none before took.
 #[tactic(auto, unfolding(crate::specs::Identifiers::wanted_ids))]
-pub fn wanted_identifiers(
-    alloc: Global,
-    identities: &[Identity],
-) -> Result<Vec<u64>, AllocError>
+pub fn wanted_identifiers(alloc: Global, identities: &[Identity]) -> Result<Vec<u64>, AllocError>
     ensures { IfOk result (λ wanted. wanted.items ≡ wanted_ids identities.now) }
 {
     let ids = settle(alloc, identities)?;
@@ -134,3 +132,43 @@ pub fn wanted_identifiers(
 pub fn identifiers_law()
     ensures { (f : Frame) (v : Volume) → wanted_ids (map (identity f v) (ordinary_entries f v)) ≡ map (wanted_id f v) (ordinary_entries f v) }
 {}
+
+/// The wanted identifiers of the ordinary entries of a volume differ.
+pub fn identifiers_differ_law()
+    ensures { (f : Frame) (v : Volume) (a b : Addr) → Contains (ordinary_entries f v) a → Contains (ordinary_entries f v) b
+        → wanted_id f v a ≡ wanted_id f v b → a ≡ b }
+{}
+
+#[cfg(test)]
+mod tests {
+    use super::*;
+
+    fn entry(id: u64) -> Identity {
+        Identity { id, is_root: false }
+    }
+
+    // The root's 20 bars the entry after it, and is free again for the next; 17 stands twice, 3 and 2^63 are not lawful.
+    #[test]
+    fn the_least_that_nobody_keeps(rt: HostRuntime) -> Result<(), AllocError> {
+        let root = Identity {
+            id: 20,
+            is_root: true,
+        };
+        let found = [
+            entry(17),
+            root,
+            entry(20),
+            entry(17),
+            entry(3),
+            entry(16),
+            entry(1 << 63),
+            entry(18),
+        ];
+        let wanted = wanted_identifiers(rt.alloc(), &found)?;
+        assert_eq!(rt;
+            wanted.as_slice(),
+            [17, 0, 19, 20, 21, 16, 22, 18].as_slice()
+        );
+        Ok(())
+    }
+}
