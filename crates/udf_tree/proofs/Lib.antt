@@ -6,3 +6,9 @@ pub mod Adding
 pub mod Going
 pub mod Beginning
 pub mod TestParts
+pub mod Runs
+pub mod Filling
+pub mod Settling
+pub mod Ascending
+pub mod Numbering
+pub mod Differing

@@ -5,3 +5,4 @@ pub mod Visit
 pub mod Order
 pub mod Seen
 pub mod Begin
+pub mod Identifiers

@@ -5,6 +5,7 @@
 
 mod arena;
 mod find;
+mod identifiers;
 mod reading;
 mod starts;
 mod target;
@@ -13,4 +14,5 @@ mod tests;
 
 pub use arena::{Arena, Found};
 pub use find::find_entries;
+pub use identifiers::{Identity, identifiers_law, wanted_identifiers};
 pub use starts::Starts;
