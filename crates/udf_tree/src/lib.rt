@@ -14,5 +14,5 @@ mod tests;
 
 pub use arena::{Arena, Found};
 pub use find::find_entries;
-pub use identifiers::{Identity, identifiers_law, wanted_identifiers};
+pub use identifiers::{Identity, identifiers_differ_law, identifiers_law, wanted_identifiers};
 pub use starts::Starts;
