@@ -1,0 +1,6 @@
+pub mod Targets
+pub mod Told
+pub mod Queueing
+pub mod Visiting
+pub mod Adding
+pub mod Going

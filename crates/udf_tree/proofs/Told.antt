@@ -1,0 +1,81 @@
+-- What the calls that read an entry tell.
+use Rattle.std.proofs.Common.{subst, ◌≡◌, ℕ, ◌<◌, List, [], ◌++◌, Bool, true, false, cond, ◌&&◌, Option, Some, None, Result, Ok, Err, IfOk, refl, sym, ap, ◌∙◌, arith}
+use Rattle.std.specs.Prelude.{◌==◌, nat_lt}
+use Rattle.std.proofs.lemmas.Bool.{and_parts, and_from}
+use Rattle.std.proofs.lemmas.Bool.Decides.{nat_tests}
+use Rattle.udf_field.specs.declared.address.Addr.{Addr}
+use Rattle.udf_model.specs.Tag.{id_at, identifier, is_whole, location}
+use Rattle.udf_file_model.specs.Entry.{Entry, entry_of, entry_by, entry_header, fitting, header_by, is_directory}
+use Rattle.udf_file_model.specs.Pieces.{runs_of}
+use Rattle.udf_file_model.specs.Listing.{Volume, Listing, listing, listing_at, listing_by, list_for, good_length}
+use Rattle.udf_file_model.specs.Content.{content, content_by}
+use Rattle.udf_tree_model.specs.Frame.{stream_of, links_of, content_to, entry_at, entry_by as entry_placed, is_address}
+use Rattle.udf_field.specs.declared.address.Long.{Long}
+use Rattle.udf_tree_model.specs.Link.{fid_links, pointer_links}
+use Rattle.udf_tree.specs.Read.{Reads}
+use Rattle.udf_tree.specs.Target.{entry_targets, linking, targets_of}
+
+pub ok_more : {T E : Type 0} (r : Result T E) (P Q : T → Type 0) → ((x : T) → P x → Q x) → IfOk r P → IfOk r Q
+ok_more (Ok x) P Q h k = h x k
+ok_more (Err e) P Q h k = k
+
+number_is : (m n : ℕ) → (m == n) ≡ true → m ≡ n
+number_is m n t = grind (arith, nat_tests)
+
+-- a readable entry states the location at which it is read
+stated_location : (at : ℕ) (block : List ℕ) (e : Entry) → entry_of at block ≡ Some e → location block ≡ at
+unfolding entry_of entry_header id_at
+stated_location at block e h = by_tag (is_whole block && (location block == at)) refl h
+  where
+    by_tag : (b : Bool) → (is_whole block && (location block == at)) ≡ b → entry_by block (fitting block (header_by (cond b (Some (identifier block)) None))) ≡ Some e → location block ≡ at
+    by_tag true t k = number_is (location block) at (and_parts (is_whole block) (location block == at) t).1
+    by_tag false t k = cc
+
+pub content_is : (v : Volume) (at : Addr) (block : List ℕ) (e : Entry) (l : Listing) (n : ℕ) (c : List ℕ) → entry_of at.block block ≡ Some e → is_directory e ≡ true
+    → l ≡ listing_at v at block → n ≡ l.good_length → c ≡ content_by v l.runs n (entry_of (location block) block) → c ≡ linking v at e
+unfolding content_to listing_at listing
+content_is v at block e l n c h d i j k =
+    let list : l ≡ listing v at e = i ∙ ap (listing_by v at) h in
+    let runs : l.runs ≡ runs_of (list_for v at e) = ap (λ (x : Listing). x.runs) list in
+    let bytes : n ≡ good_length v at e = j ∙ ap (λ (x : Listing). x.good_length) list in
+    let entry : entry_of (location block) block ≡ Some e = ap (λ (x : ℕ). entry_of x block) (stated_location at.block block e h) ∙ h in
+    k
+    ∙ ap (content_by v l.runs n) entry
+    ∙ ap (λ r. content v e r n) runs
+    ∙ ap (content v e (runs_of (list_for v at e))) bytes
+    ∙ ap (λ (b : Bool). cond b (content v e (runs_of (list_for v at e)) (good_length v at e)) []) (sym d)
+
+pub content_none : (v : Volume) (at : Addr) (e : Entry) (c : List ℕ) → is_directory e ≡ false → c ≡ [] → c ≡ linking v at e
+unfolding content_to
+content_none v at e c d k = k ∙ ap (λ (b : Bool). cond b (content v e (runs_of (list_for v at e)) (good_length v at e)) []) (sym d)
+
+pub address_is : (a : Addr) → a.part < 65536 → a.block < 4294967296 → is_address a ≡ true
+address_is a p b = and_from (nat_lt a.part 65536) (nat_lt a.block 4294967296) (low a.part 65536 p) (low a.block 4294967296 b)
+  where
+    low : (m n : ℕ) → m < n → nat_lt m n ≡ true
+    low m n l = grind (arith, nat_tests)
+
+pub entry_unplaced : (v : Volume) (a : Addr) → v.place a ≡ None → entry_at v a ≡ None
+unfolding entry_at
+entry_unplaced v a h = ap (λ (o : Option ℕ). cond (is_address a) (entry_placed v a o) None) h ∙ either (is_address a)
+  where
+    either : (b : Bool) → cond b (entry_placed v a None) None ≡ None
+    either true = refl
+    either false = refl
+
+pub entry_there : (v : Volume) (a : Addr) (sector : ℕ) (block : List ℕ) → is_address a ≡ true → v.place a ≡ Some sector → block ≡ v.disk sector → entry_at v a ≡ entry_of a.block block
+unfolding entry_at
+entry_there v a sector block h p d =
+    ap (λ (b : Bool). cond b (entry_placed v a (v.place a)) None) h
+    ∙ ap (entry_placed v a) p
+    ∙ ap (entry_of a.block) (sym d)
+
+pub targets_are : (v : Volume) (a : Addr) (e : Entry) (stream : Option Long) (bytes : List ℕ) → stream ≡ e.stream → bytes ≡ linking v a e
+    → targets_of (pointer_links (stream_of stream) ++ fid_links v.size bytes) ≡ entry_targets v a e
+unfolding entry_targets links_of
+targets_are v a e stream bytes s b =
+    ap (λ (o : Option Long). targets_of (pointer_links (stream_of o) ++ fid_links v.size bytes)) s
+    ∙ ap (λ (c : List ℕ). targets_of (pointer_links (stream_of e.stream) ++ fid_links v.size c)) b
+
+pub reads_some : (v : Volume) (a : Addr) (o : Option (List Addr)) (ts : List Addr) → o ≡ Some ts → Reads v a o → (e : Entry) × (entry_at v a ≡ Some e) × (ts ≡ entry_targets v a e)
+reads_some v a o ts e r = subst (Reads v a) e r

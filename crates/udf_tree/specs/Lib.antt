@@ -1,0 +1,6 @@
+pub mod Target
+pub mod Read
+pub mod Spot
+pub mod Visit
+pub mod Order
+pub mod Seen
