@@ -4,3 +4,6 @@ pub mod Queueing
 pub mod Visiting
 pub mod Adding
 pub mod Going
+mod Wanting
+mod Wanted
+mod Deciding

@@ -4,3 +4,5 @@ pub mod Spot
 pub mod Visit
 pub mod Order
 pub mod Seen
+pub mod Wanted
+pub mod Winners
