@@ -12,3 +12,6 @@ pub mod Settling
 pub mod Ascending
 pub mod Numbering
 pub mod Differing
+mod Wanting
+mod Wanted
+mod Deciding

@@ -6,3 +6,5 @@ pub mod Order
 pub mod Seen
 pub mod Begin
 pub mod Identifiers
+pub mod Wanted
+pub mod Winners

@@ -1,0 +1,214 @@
+// What an entry wants of a volume's blocks.
+ghost use Rattle.std.specs.Prelude.{◌≡◌, ◌++◌, ◌∷◌, [], ◌<◌, ◌/◌, ℕ, true, false, not, OnOk, IfOk, Some, length};
+ghost use Rattle.udf_field.specs.declared.address.Addr.{Addr};
+ghost use Rattle.udf_model.specs.Size.{is_size};
+ghost use Rattle.udf_outside.specs.Files.{IsAttached};
+ghost use Rattle.udf_outside.specs.Stops.{bytes_of};
+ghost use Rattle.udf_outside.specs.Reads.{OnlyReads};
+ghost use Rattle.udf_outside.specs.declared.bench.Role.TheVariants.{Image};
+ghost use Rattle.udf_claims.specs.Winner.{number};
+ghost use Rattle.udf_file_model.specs.Entry.{Entry, is_directory};
+ghost use Rattle.udf_file_model.specs.Front.{blocks_for};
+ghost use Rattle.udf_file_model.specs.Listing.{volume_of};
+ghost use Rattle.udf_tree_model.specs.Frame.{Frame, block_class, extent_class};
+ghost use Rattle.udf_entry.specs.RunView.{run_seen};
+ghost use Rattle.udf_tree.specs.Wanted.{extent_wants, fixed_wants, run_want, run_wants, want, wants_at};
+
+use crate::stretch::Stretch;
+use std::alloc::{AllocError, Global};
+use udf_claims::Claims;
+use udf_entry::{List, ListStop, Run, list_of, read_entry};
+use udf_field::Addr;
+use udf_layer::Parts;
+use udf_outside::{Bench, read_block};
+
+// How strong a want is: a lower class is stronger. Of the root its whole list is of the class ROOT.
+const FIXED: u8 = 0;
+
+const OWN_BLOCK: u8 = 1;
+
+const ROOT: u8 = 2;
+
+const EXTENT: u8 = 3;
+
+const DIRECTORY: u8 = 4;
+
+const FILE: u8 = 5;
+
+// The owner of the fixed addresses: one more than the greatest number of an address.
+const FIXED_OWNER: u64 = 0x1_0000_0000_0000;
+
+// The kind of a descriptor of a hole (ECMA-167 4/14.14.1.1).
+const HOLE: u8 = 2;
+
+// The blocks of a part: one for each block number.
+const BLOCKS: u64 = 0x1_0000_0000;
+
+/// The number by which an entry at an address is known as an owner.
+pub(crate) fn owner_of(at: Addr) -> u64
+    ensures { result ≡ number at }
+{
+    at.part as u64 * BLOCKS + at.block as u64
+}
+
+// The blocks that so many bytes take.
+fn blocks_of(size: u32, bytes: u32) -> u32
+    requires { 0 < size }
+    ensures { result ≡ blocks_for size bytes }
+{
+    ((bytes as u64 + (size - 1) as u64) / size as u64) as u32
+}
+
+// The class of the allocation extents of an entry.
+#[tactic(auto, unfolding(udf_tree_model::specs::Frame::extent_class))]
+fn extent_class(root: Addr, at: Addr) -> u8
+    ensures { (f : Frame) → f.root ≡ root → result ≡ extent_class f at }
+{
+    if at == root { ROOT } else { EXTENT }
+}
+
+// The class of the blocks of an entry.
+#[tactic(auto, unfolding(udf_tree_model::specs::Frame::block_class))]
+fn block_class(root: Addr, at: Addr, directory: bool) -> u8
+    ensures { (f : Frame) (e : Entry) → f.root ≡ root → is_directory e ≡ directory → result ≡ block_class f at e }
+{
+    if at == root {
+        ROOT
+    } else if directory {
+        DIRECTORY
+    } else {
+        FILE
+    }
+}
+
+// Adds an owner's want of so many blocks from an address on, as far as its part has blocks.
+fn add_want<P: Parts>(
+    claims: &mut Claims,
+    parts: &P,
+    owner: u64,
+    class: u8,
+    at: Addr,
+    many: u32,
+) -> Result<(), AllocError>
+    ensures { OnOk result (claims.new ≡ claims.old ++ want (P.blocks parts.now) owner class at many ∷ []) }
+{
+    let left = parts.blocks(at.part).saturating_sub(at.block);
+    claims.add(owner, at, many.min(left), class)
+}
+
+// Adds an owner's wants of the allocation extents of its list.
+fn add_extents<P: Parts>(
+    claims: &mut Claims,
+    parts: &P,
+    owner: u64,
+    class: u8,
+    list: &List,
+) -> Result<(), AllocError>
+    ensures { OnOk result (claims.new ≡ claims.old ++ extent_wants (P.blocks parts.now) owner class list.now.extents) }
+{
+    for i in 0..list.extents() {
+        add_want(claims, parts, owner, class, list.extent(i), 1)?;
+    }
+    Ok(())
+}
+
+// Adds an owner's wants of a run's blocks; a hole has none.
+#[tactic(auto, unfolding(crate::specs::Wanted::run_want), using(crate::proofs::Wanting::nothing_more))]
+fn add_run<P: Parts>(
+    claims: &mut Claims,
+    parts: &P,
+    size: u32,
+    owner: u64,
+    class: u8,
+    run: Run,
+) -> Result<(), AllocError>
+    requires { 0 < size }
+    ensures { OnOk result (claims.new ≡ claims.old ++ run_want (P.blocks parts.now) size owner class (run_seen run)) }
+{
+    if run.kind == HOLE {
+        return Ok(());
+    }
+    add_want(
+        claims,
+        parts,
+        owner,
+        class,
+        run.at,
+        blocks_of(size, run.length),
+    )
+}
+
+// Adds an owner's wants of the blocks of its list.
+fn add_runs<P: Parts>(
+    claims: &mut Claims,
+    parts: &P,
+    size: u32,
+    owner: u64,
+    class: u8,
+    list: &List,
+) -> Result<(), AllocError>
+    requires { 0 < size }
+    ensures { OnOk result (claims.new ≡ claims.old ++ run_wants (P.blocks parts.now) size owner class list.now.runs) }
+{
+    for i in 0..list.len() {
+        add_run(claims, parts, size, owner, class, list.run(i))?;
+    }
+    Ok(())
+}
+
+/// Adds the fixed addresses, which no entry wins.
+pub(crate) fn add_fixed<P: Parts>(
+    claims: &mut Claims,
+    parts: &P,
+    fixed: &[Stretch],
+) -> Result<(), AllocError>
+    ensures { OnOk result (claims.new ≡ claims.old ++ fixed_wants (P.blocks parts.now) fixed.now) }
+{
+    for stretch in fixed {
+        add_want(
+            claims,
+            parts,
+            FIXED_OWNER,
+            FIXED,
+            stretch.at,
+            stretch.blocks,
+        )?;
+    }
+    Ok(())
+}
+
+/// Adds what the readable entry at an address wants. `room` is lent and has the block size.
+pub(crate) fn add_wants<B: Bench, P: Parts>(
+    alloc: Global,
+    bench: &mut B,
+    parts: &P,
+    size: u32,
+    root: Addr,
+    at: Addr,
+    claims: &mut Claims,
+    room: &mut [u8],
+) -> Result<(), ListStop>
+    requires attached { IsAttached Image (B.files bench.old) }
+    requires size { is_size size ≡ true }
+    requires placed { (a : Addr) (s : ℕ) → P.place parts.now a ≡ Some s → s < (B.files bench.old).image.size / size }
+    requires room { length room.old ≡ size }
+    ensures wants { B.tells → (f : Frame) → f.root ≡ root → OnOk result (claims.new ≡ claims.old
+        ++ wants_at (P.blocks parts.now) f (volume_of size (bytes_of Image (B.held bench.old)) (P.place parts.now)) at) }
+    ensures room { length room.new ≡ length room.old }
+    ensures reads { OnlyReads B.files B.held B.faults bench.old bench.new ListStop.Fault result }
+{
+    let Some(sector) = parts.locate(at) else {
+        return Ok(());
+    };
+    read_block(bench, size, sector, room)?;
+    let Some(entry) = read_entry(room, at.block) else {
+        return Ok(());
+    };
+    let class = block_class(root, at, entry.is_directory());
+    let list = list_of(alloc, bench, parts, at, room)?;
+    let owner = owner_of(at);
+    add_want(claims, parts, owner, OWN_BLOCK, at, 1)?;
+    add_extents(claims, parts, owner, extent_class(root, at), &list)?;
+    add_runs(claims, parts, size, owner, class, &list)?;
+    Ok(())
+}
