@@ -37,7 +37,7 @@ same_length most area h =
     ∙ ap (λ n. max (16 + crc_length area) (56 + 8 * n)) (front_number most 2 48 area (omega arith))
 
 -- the bytes of some blocks are those of the image
-bytes_are : (size : ℕ) (image : List ℕ) (at blocks : ℕ) → bytes_from (block_of size image) at blocks ≡ take (blocks * size) (drop (at * size) image)
+pub bytes_are : (size : ℕ) (image : List ℕ) (at blocks : ℕ) → bytes_from (block_of size image) at blocks ≡ take (blocks * size) (drop (at * size) image)
 unfolding bytes_from block_of
 bytes_are size image at zero = ap (λ n. take n (drop (at * size) image)) none
   where
@@ -102,6 +102,26 @@ same_map f g most a zero room same = refl
 same_map f g most a (suc n) room same =
     ap (λ p. p ∷ map f (range_with_len (a + 1) n)) (same a (omega arith)) ∙ ap (λ l. g a ∷ l) (same_map f g most (a + 1) n (omega arith) same)
 
+-- the entries of a table by its head and their own bytes
+module _ (most : ℕ) (area : List ℕ) (head : 56 ≤ most) where
+  pub same_count : entry_count (take most area) ≡ entry_count area
+  same_count = front_number most 2 48 area (omega arith)
+
+  pub same_sequence : sequence_number (take most area) ≡ sequence_number area
+  same_sequence = front_number most 4 52 area (omega arith)
+
+  pub same_entries : 56 + 8 * entry_count area ≤ most → entries (take most area) ≡ entries area
+  unfolding entries entry_at
+  same_entries room =
+      ap (λ n. map (entry_at (take most area)) (range_with_len 0 n)) same_count
+      ∙ same_map (entry_at (take most area)) (entry_at area) (entry_count area) 0 (entry_count area) (omega arith)
+      (λ i h. same_entry i (omega arith))
+    where
+      same_entry : (i : ℕ) → 64 + 8 * i ≤ most → entry_at (take most area) i ≡ entry_at area i
+      same_entry i h =
+          ap (λ n. (n, number_at 4 (take most area) (60 + 8 * i))) (front_number most 4 (56 + 8 * i) area (omega arith))
+          ∙ ap (λ n. (number_at 4 area (56 + 8 * i), n)) (front_number most 4 (60 + 8 * i) area (omega arith))
+
 -- a tag is whole by the bytes that its CRC covers
 module _ (most : ℕ) (area : List ℕ) (head : 56 ≤ most) (covers : 16 + crc_length area ≤ most) where
   same_crc_length : crc_length (take most area) ≡ crc_length area
@@ -141,27 +161,9 @@ module _ (most : ℕ) (area : List ℕ) (head : 56 ≤ most) (covers : 16 + crc_
   unfolding entity_is entity_name
   same_name name = ap (λ l. bytes_eq l (padded 23 name)) (same_part most 23 17 area (omega arith))
 
-  pub same_count : entry_count (take most area) ≡ entry_count area
-  same_count = front_number most 2 48 area (omega arith)
-
-  pub same_sequence : sequence_number (take most area) ≡ sequence_number area
-  same_sequence = front_number most 4 52 area (omega arith)
-
   pub same_table : (bytes at : ℕ) → is_table bytes at (take most area) ≡ is_table bytes at area
   unfolding is_table
   same_table bytes at =
       ap (λ o. is_id 0 o && (entity_is (take most area) 16 (codes "*UDF Sparing Table") && nat_le (56 + 8 * entry_count (take most area)) bytes)) (same_id at)
       ∙ ap (λ b. is_id 0 (id_at at area) && (b && nat_le (56 + 8 * entry_count (take most area)) bytes)) (same_name (codes "*UDF Sparing Table"))
-      ∙ ap (λ n. is_id 0 (id_at at area) && (entity_is area 16 (codes "*UDF Sparing Table") && nat_le (56 + 8 * n) bytes)) same_count
-
-  pub same_entries : 56 + 8 * entry_count area ≤ most → entries (take most area) ≡ entries area
-  unfolding entries entry_at
-  same_entries room =
-      ap (λ n. map (entry_at (take most area)) (range_with_len 0 n)) same_count
-      ∙ same_map (entry_at (take most area)) (entry_at area) (entry_count area) 0 (entry_count area) (omega arith)
-      (λ i h. same_entry i (omega arith))
-    where
-      same_entry : (i : ℕ) → 64 + 8 * i ≤ most → entry_at (take most area) i ≡ entry_at area i
-      same_entry i h =
-          ap (λ n. (n, number_at 4 (take most area) (60 + 8 * i))) (front_number most 4 (56 + 8 * i) area (omega arith))
-          ∙ ap (λ n. (number_at 4 area (56 + 8 * i), n)) (front_number most 4 (60 + 8 * i) area (omega arith))
+      ∙ ap (λ n. is_id 0 (id_at at area) && (entity_is area 16 (codes "*UDF Sparing Table") && nat_le (56 + 8 * n) bytes)) (same_count most area head)

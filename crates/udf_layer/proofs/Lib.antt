@@ -1,3 +1,4 @@
+pub mod Listed
 pub mod PlacedFronts
 pub mod Near
 pub mod Mapping
@@ -9,3 +10,6 @@ pub mod AreaFronts
 pub mod WholeTables
 pub mod Prevails
 pub mod Best
+pub mod TableBytes
+pub mod Deviating
+pub mod Told

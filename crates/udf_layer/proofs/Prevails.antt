@@ -1,16 +1,20 @@
 -- The best of all tables prevails.
-use Rattle.std.proofs.Common.{◌≡◌, ℕ, ◌+◌, ◌<◌, ◌≤◌, arith, refl, ◌∙◌, ap, List, length, get_or, true, false, Option, Some, None, nat_le}
-use Rattle.std.specs.Prelude.{slice_get}
+use Rattle.std.proofs.Common.{◌≡◌, ℕ, ◌+◌, ◌<◌, ◌≤◌, arith, refl, ◌∙◌, ap, List, length, get_or, min, true, false, Option, Some, None, nat_le}
+use Rattle.std.specs.Prelude.{slice_get, slice_index}
 use Rattle.std.specs.List.{list_all, range_with_len}
+use Rattle.std.specs.Option.{option_map}
 use Rattle.std.proofs.lemmas.Bool.Decides.{nat_tests}
 use Rattle.std.proofs.lemmas.Option.{slice_get_past, slice_get-get_or}
 use Rattle.std.proofs.lemmas.List.Sums.{position_or_len_is, list_all-from_AllPass}
 use Rattle.std.proofs.lemmas.List.Folds.{list_all_at, find_at}
-use Rattle.std.proofs.lemmas.List.FromFn.{length-range_with_len, get_or-range_with_len}
+use Rattle.std.proofs.lemmas.List.FromFn.{length-map-range_with_len, length-range_with_len, get_or-range_with_len}
 use Rattle.udf_layer.specs.Prevailing.{Prevails}
-use Rattle.udf_layer.specs.Read.{BestAt}
+use Rattle.udf_layer.specs.Read.{BestAt, IsBest}
+use Rattle.udf_layer.specs.Fronts.{table_bytes}
+use Rattle.udf_layer.specs.Tables.{map_seen}
+use Rattle.udf_layer.specs.declared.maps.SparingMap.{SparingMap}
 use Rattle.udf_layer.specs.declared.whole_table.WholeTable.{WholeTable}
-use Rattle.udf_volume_model.specs.SparingTable.{at_most, is_highest, is_top, prevailing_table}
+use Rattle.udf_volume_model.specs.SparingTable.{at_most, is_highest, is_top, listed_area, listed_number, prevailing_area, prevailing_table}
 
 at_most_true : (o : Option ℕ) (n : ℕ) → ((m : ℕ) → o ≡ Some m → m ≤ n) → at_most o n ≡ true
 at_most_true None n h = refl
@@ -73,8 +77,8 @@ module _ (numbers : ℕ → Option ℕ) (count : ℕ) where
       first_is best is.within (high best is.number is.whole (λ k m h e. is.highest k h m e))
       (λ k h. earlier_fails k best is.number (numbers k) refl is.within is.whole (λ m e. is.earliest k m h e))
 
-  pub best_prevails : (lists : ℕ → List (ℕ × ℕ)) (table : WholeTable) (best : ℕ) → BestAt numbers lists count table best → prevailing_table numbers count ≡ Some best
-  best_prevails lists table best is = highest_prevails best (record {
+  best_prevails : (texts : ℕ → List ℕ) (table : WholeTable) (best : ℕ) → BestAt numbers texts count table best → prevailing_table numbers count ≡ Some best
+  best_prevails texts table best is = highest_prevails best (record {
     within = is.within;
     number = table.number;
     whole = is.stands;
@@ -84,3 +88,26 @@ module _ (numbers : ℕ → Option ℕ) (count : ℕ) where
 
   pub none_prevails : ((k : ℕ) → k < count → numbers k ≡ None) → prevailing_table numbers count ≡ None
   none_prevails none = none_is (λ k h. low k (none k h))
+
+-- what prevails by the best table of a map
+abbrev pub PrevailsBy : Option (List ℕ) → Option WholeTable → Type 0
+PrevailsBy area None = area ≡ None
+PrevailsBy area (Some table) = (a : List ℕ) × (area ≡ Some a) × (table.bytes.items ≡ table_bytes a)
+
+all_listed : (m : SparingMap) → m.count ≤ 4 → length (map_seen m).tables ≡ m.count
+all_listed m few = omega (arith, length-map-range_with_len (slice_index m.at) 0 (min m.count 4))
+
+pub best_area : (size : ℕ) (disk : ℕ → List ℕ) (m : SparingMap) (best : Option WholeTable) → m.count ≤ 4
+    → IsBest (listed_number size disk (map_seen m)) (λ i. table_bytes (listed_area size disk (map_seen m) i)) m.count best
+    → PrevailsBy (prevailing_area size disk (map_seen m)) best
+unfolding prevailing_area
+best_area size disk m None few none =
+    ap (option_map (listed_area size disk (map_seen m)))
+    (ap (prevailing_table (listed_number size disk (map_seen m))) (all_listed m few) ∙ none_prevails (listed_number size disk (map_seen m)) m.count none)
+best_area size disk m (Some table) few (best, is) = (
+  listed_area size disk (map_seen m) best,
+  ap (option_map (listed_area size disk (map_seen m)))
+      (ap (prevailing_table (listed_number size disk (map_seen m))) (all_listed m few)
+      ∙ best_prevails (listed_number size disk (map_seen m)) m.count (λ i. table_bytes (listed_area size disk (map_seen m) i)) table best is),
+  is.bytes,
+)

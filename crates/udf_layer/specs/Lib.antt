@@ -7,6 +7,7 @@ pub mod Tables
 pub mod Fronts
 pub mod Prevailing
 pub mod Read
+pub mod Verdict
 pub mod Spared
 pub mod Indexes
 pub mod Lawful

@@ -3,6 +3,7 @@
 //! sectors apart; nothing above knows how a partition is built. It stands on addresses and on the definitions of places.
 #![tactic(auto)]
 
+mod agreement;
 mod area;
 mod entries;
 mod free;
@@ -18,6 +19,7 @@ mod sparable;
 mod table;
 mod whole_table;
 
+pub use agreement::{Deviation, TableVerdict, coverable_bytes, table_verdict};
 pub use area::Area;
 pub use layer::Layer;
 pub use maps::{MetaMap, SparingMap};
@@ -28,6 +30,7 @@ pub use physical::Physical;
 pub use prevailing::{prevailing_law, sparing_table};
 pub use sparable::{Sparable, spare_law};
 pub use table::SparingTable;
+pub use whole_table::covered_bytes;
 
 #[cfg(test)]
 mod tests;

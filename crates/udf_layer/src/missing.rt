@@ -19,10 +19,16 @@ pub enum ProfileItem {
     VolumePointer,
     /// Partition maps of none of the five shapes, whose partition is not described, or whose packets or sparing tables are none.
     PartitionMaps,
-    /// A partition that is not built yet: a sparable, a metadata or a virtual one.
+    /// A partition that is not built yet: a metadata or a virtual one.
     Unbuilt,
     /// A space table, an integrity table or freed space.
     SpaceTables,
+    /// A found entry of another strategy than 4, or a link to an indirect entry (ECMA-167 4/14.6.2 and 4/14.7).
+    Strategy,
+    /// A found entry with extended allocation descriptors (ECMA-167 4/14.6.8).
+    ExtendedDescriptors,
+    /// A found entry whose extended attributes stand in a file of their own (ECMA-167 4/14.9.16).
+    AttributeFile,
 }
 
 /// The first thing that an image lacks.
@@ -39,6 +45,8 @@ pub enum Missing {
     Layout,
     /// No sparing table is whole, or a used packet of the prevailing one does not lie as it must.
     SparingTable,
+    /// The root is not a directory that wins its own block and has room for a parent FID.
+    RootDirectory,
     /// The volume is not to be written, which a repair would do.
     WriteProtected,
 }

@@ -5,11 +5,11 @@ ghost use Rattle.udf_outside.specs.Reads.{OnlyReads};
 ghost use Rattle.udf_outside.specs.Sectors.{disk_of};
 ghost use Rattle.udf_outside.specs.Stops.{bytes_of, slice_of};
 ghost use Rattle.udf_outside.specs.declared.bench.Role.TheVariants.{Image};
-ghost use Rattle.udf_layer.specs.Fronts.{front_length, table_front};
+ghost use Rattle.udf_layer.specs.Fronts.{front_length, table_bytes, table_front};
 ghost use Rattle.udf_layer.specs.Prevailing.{IsTableMap, Prevails};
-ghost use Rattle.udf_layer.specs.Read.{IsBest, IsRead, IsTableStop, IsUsedTable};
+ghost use Rattle.udf_layer.specs.Read.{IsBest, IsOfTable, IsRead, IsTableStop, IsUsedTable};
 ghost use Rattle.udf_layer.specs.Tables.{area_bytes, map_seen};
-ghost use Rattle.udf_volume_model.specs.SparingTable.{entries, listed_area, listed_number, prevailing_table, table_area, table_number, table_stated};
+ghost use Rattle.udf_volume_model.specs.SparingTable.{listed_area, listed_number, prevailing_table, table_area, table_number, table_stated};
 
 use crate::entries::used_entries;
 use crate::whole_table::{HEAD_BYTES, WholeTable, front_bytes, is_whole_table};
@@ -84,7 +84,8 @@ fn read_front<B: Bench>(
 // The table of a front that was read at a sector, where it is whole.
 fn table_of(bytes: u32, at: u32, front: Vec<u8>) -> Option<WholeTable>
     requires { 56 ≤ length front.items }
-    ensures { (area : List ℕ) → front.items ≡ table_front area → bytes ≤ length area → IsRead (table_number bytes at area) (entries area) result }
+    ensures read { (area : List ℕ) → front.items ≡ table_front area → bytes ≤ length area → IsRead (table_number bytes at area) (table_bytes area) result }
+    ensures of { IsOfTable bytes result }
 {
     if is_whole_table(bytes, at, &front) {
         Some(WholeTable::of(front))
@@ -93,8 +94,8 @@ fn table_of(bytes: u32, at: u32, front: Vec<u8>) -> Option<WholeTable>
     }
 }
 
-// The table at a sector, where one is whole there.
-fn read_table<B: Bench>(
+/// The table at a sector, where one is whole there.
+pub(crate) fn read_table<B: Bench>(
     alloc: Global,
     bench: &mut B,
     size: u32,
@@ -105,7 +106,8 @@ fn read_table<B: Bench>(
     requires large { 512 ≤ size }
     requires some { 56 ≤ bytes }
     requires within { at * size + area_bytes size bytes ≤ (B.files bench.old).image.size }
-    ensures table { B.tells → IfOk result (IsRead (table_number bytes at (table_area size (disk_of size (B.held bench.old)) bytes at)) (entries (table_area size (disk_of size (B.held bench.old)) bytes at))) }
+    ensures table { B.tells → IfOk result (IsRead (table_number bytes at (table_area size (disk_of size (B.held bench.old)) bytes at)) (table_bytes (table_area size (disk_of size (B.held bench.old)) bytes at))) }
+    ensures of { IfOk result (IsOfTable bytes) }
     ensures reads { OnlyReads B.files B.held B.faults bench.old bench.new WorkStop.Fault result }
 {
     let front = read_front(alloc, bench, size, bytes, at)?;
@@ -114,8 +116,9 @@ fn read_table<B: Bench>(
 
 // The better of the best table before and the next one.
 fn higher(best: Option<WholeTable>, found: Option<WholeTable>) -> Option<WholeTable>
-    ensures { (numbers : ℕ → Option ℕ) (lists : ℕ → List (ℕ × ℕ)) (i : ℕ) → IsBest numbers lists i best → IsRead (numbers i) (lists i) found
-        → IsBest numbers lists (i + 1) result }
+    ensures best { (numbers : ℕ → Option ℕ) (texts : ℕ → List ℕ) (i : ℕ) → IsBest numbers texts i best → IsRead (numbers i) (texts i) found
+        → IsBest numbers texts (i + 1) result }
+    ensures of { (bytes : ℕ) → IsOfTable bytes best → IsOfTable bytes found → IsOfTable bytes result }
 {
     let Some(found) = found else {
         return best;
@@ -130,8 +133,8 @@ fn higher(best: Option<WholeTable>, found: Option<WholeTable>) -> Option<WholeTa
     }
 }
 
-// The best of the tables that a map lists.
-fn best_table<B: Bench>(
+/// The best of the tables that a map lists.
+pub(crate) fn best_table<B: Bench>(
     alloc: Global,
     bench: &mut B,
     size: u32,
@@ -141,7 +144,8 @@ fn best_table<B: Bench>(
     requires large { 512 ≤ size }
     requires map { IsTableMap size (B.files bench.old).image.size map.now }
     ensures best { B.tells → IfOk result (IsBest (listed_number size (disk_of size (B.held bench.old)) (map_seen map.now))
-        (λ i. entries (listed_area size (disk_of size (B.held bench.old)) (map_seen map.now) i)) map.now.count) }
+        (λ i. table_bytes (listed_area size (disk_of size (B.held bench.old)) (map_seen map.now) i)) map.now.count) }
+    ensures of { IfOk result (IsOfTable map.now.bytes) }
     ensures reads { OnlyReads B.files B.held B.faults bench.old bench.new WorkStop.Fault result }
 {
     let mut best = None;

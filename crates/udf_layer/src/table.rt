@@ -3,11 +3,11 @@ ghost use Rattle.std.specs.Prelude.{◌≡◌, ◌+◌, ◌++◌, ◌∷◌, [],
 ghost use Rattle.udf_file_model.specs.Place.{spared_to};
 ghost use Rattle.udf_layer.specs.Indexes.{mapped_from};
 ghost use Rattle.udf_layer.specs.Lawful.{is_lawful};
-ghost use Rattle.udf_layer.specs.Packets.{packets_fit};
+ghost use Rattle.udf_layer.specs.Packets.{outside_packets, packets_fit};
 
 use crate::Area;
 use crate::free::are_free;
-use crate::sectors::is_apart_from;
+use crate::sectors::{is_apart_from, is_outside};
 use std::alloc::{AllocError, Global};
 use std::collections::{BTreeMap, BTreeSet};
 use std::marker::Model;
@@ -129,6 +129,13 @@ impl SparingTable {
             None => None,
             Some(first) => Some(first + distance),
         }
+    }
+
+    /// Whether a sector lies in none of the packets to which entries map.
+    pub fn lies_outside(&self, sector: u32) -> bool
+        ensures { result ≡ outside_packets self.now.packet self.now.pairs sector }
+    {
+        is_outside(&self.starts, self.packet, sector)
     }
 
     /// Whether each used packet lies in an image of so many blocks, starts above block 128, and is apart from these areas and from

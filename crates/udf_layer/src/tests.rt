@@ -2,7 +2,8 @@
 ghost use Rattle.std.specs.Prelude.{◌≡◌, length};
 
 use crate::{
-    Area, Layer, LayerStop, One, Parts, Physical, Sparable, SparingMap, SparingTable, sparing_table,
+    Area, Deviation, Layer, LayerStop, One, Parts, Physical, Sparable, SparingMap, SparingTable,
+    TableVerdict, sparing_table, table_verdict,
 };
 use std::alloc::Global;
 use std::test::Fail;
@@ -25,8 +26,12 @@ fn put_table(block: &mut [u8], at: u32, number: u32, pairs: [(u32, u32); 2])
     retag(block, 56, at);
 }
 
-// The used entries of the tables at 1 and 2, where these calls of the bench fail.
-fn used(alloc: Global, image: Vec<u8>, fail: &[u64]) -> Result<SparingTable, LayerStop> {
+// The used entries of the tables at 1 and 2 and the verdict on them, where these calls of the bench fail.
+fn used(
+    alloc: Global,
+    image: Vec<u8>,
+    fail: &[u64],
+) -> Result<(SparingTable, TableVerdict), LayerStop> {
     let fail = Vec::from_slice(alloc, fail)?;
     let mut bench = MemBench::new(alloc, image, Vec::new(alloc), fail, None);
     bench.attach(Role::Image, "image", Access::Read)?;
@@ -39,7 +44,9 @@ fn used(alloc: Global, image: Vec<u8>, fail: &[u64]) -> Result<SparingTable, Lay
         bytes: 512,
         at: [1, 2, 0, 0],
     };
-    sparing_table(alloc, &mut bench, 512, &map, 64)
+    let table = sparing_table(alloc, &mut bench, 512, &map, 64)?;
+    let verdict = table_verdict(alloc, &mut bench, 512, &map)?;
+    Ok((table, verdict))
 }
 
 #[test]
@@ -74,9 +81,14 @@ fn the_higher_table_prevails(rt: HostRuntime) -> Result<(), Fail> {
     let fails = used(alloc, image.clone()?, &[4]);
     assert!(rt; matches!(fails, Err(LayerStop::Fault)));
     match used(alloc, image, &[]) {
-        Ok(table) => {
+        Ok((table, verdict)) => {
             assert_eq!(rt; table.count(), 1);
             assert_eq!(rt; table.pair(0), (32, 352));
+            assert!(rt; table.lies_outside(351));
+            assert!(rt; !table.lies_outside(383));
+            assert!(rt; matches!(&verdict.prevailing, Some(bytes) if bytes.len() == 72));
+            let deviating = verdict.deviating.first().copied();
+            assert_eq!(rt; deviating, Some(Deviation { at: 1, number: 1 }));
         }
         Err(_) => assert!(rt; false),
     }

@@ -1,5 +1,5 @@
 -- What the prevailing descriptors of a sequence state. Offsets are those in the descriptor, from its tag's first byte.
-use Rattle.std.specs.Prelude.{ℕ, Bool, true, false, Option, Some, None, ◌&&◌, List, [], ◌++◌, replicate, codes, is_some, is_none}
+use Rattle.std.specs.Prelude.{ℕ, Bool, true, false, Option, Some, None, ◌&&◌, List, [], ◌++◌, replicate, codes, is_some}
 use Rattle.udf_volume_model.specs.Sequence.{Descriptor}
 use Rattle.udf_volume_model.specs.Prevailing.{prevailing}
 use Rattle.udf_volume_model.specs.Maps.{SparingMap, PartitionMap, Upper, Absent, OverMetadata, OverVirtual, Shape, first_map, shape_of, is_base_lawful}
@@ -54,9 +54,9 @@ has_maps list = is_lawful_shape (shape_of (logical list)) && is_some (mapped_par
 
 abbrev pub is_built_shape : Option Shape → Bool
 is_built_shape None = false
-is_built_shape (Some shape) = is_built_over shape.upper && is_none shape.sparing
+is_built_shape (Some shape) = is_built_over shape.upper
 
--- one physical partition: no sparable base, and no metadata and no virtual partition over it
+-- one physical or sparable partition: no metadata and no virtual partition over it
 unfoldable pub is_built : List Descriptor → Bool
 is_built list = is_built_shape (shape_of (logical list))
 

@@ -9,6 +9,6 @@ use Rattle.udf_volume_model.specs.SparingTable.{table_area}
 
 pub returns-clause-table : goal.returns-clause-table
 returns-clause-table g c = λ tells.
-    c.table_of.ensures (table_area c.args.size (disk_of c.args.size (g.B.Bench.held c.args.bench.now)) c.args.bytes c.args.at) (c.in_ok-front.ensures.front tells)
+    c.table_of.ensures.read (table_area c.args.size (disk_of c.args.size (g.B.Bench.held c.args.bench.now)) c.args.bytes c.args.at) (c.in_ok-front.ensures.front tells)
     (bytes_inside c.args.size c.args.bytes c.args.at (bytes_of Image (g.B.Bench.held c.args.bench.now)) c.requires.large
     (omega (arith, c.requires.within, g.met.B.Bench.sizes c.args.bench.now Image tells c.requires.attached)))

@@ -21,3 +21,17 @@ sparing_table-requires-clause-map c = record {
   some = omega arith;
   within = λ i h. lies_within _ i (omega (arith, c.if-branch-lt2048.false, c.in_ok-length.ensures.size, ap (λ (f : Files). f.image.size) c.in_ok-length.ensures.files)) h;
 }
+
+pub table_verdict-requires-clause-map : goal.table_verdict-requires-clause-map
+table_verdict-requires-clause-map c = record {
+  packet = omega arith;
+  few = omega arith;
+  some = omega arith;
+  within = λ i h. lies_within _ i (omega (
+    arith,
+    c.if-branch-lt2048.false,
+    c.in_ok-length.ensures.size,
+    ap (λ (f : Files). f.image.size) c.in_ok-length.ensures.files,
+    ap (λ (f : Files). f.image.size) c.in_ok-table.ensures.reads.files,
+  )) h;
+}
