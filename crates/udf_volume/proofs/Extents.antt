@@ -4,6 +4,10 @@ use Rattle.std.proofs.Math.Nat.{mul-le-mul_right}
 use Rattle.std.proofs.lemmas.Bool.{and_parts, leb-true, ltb-true}
 use Rattle.udf_volume_model.specs.Sequence.{Descriptor}
 use Rattle.udf_volume_model.specs.Kept.{kept, extent_of, limit_of, has_id, is_complete}
+use Rattle.std.specs.Prelude.{option_map}
+use Rattle.udf_volume_model.specs.Maps.{is_base_lawful}
+use Rattle.udf_layer.specs.Tables.{map_seen}
+use Rattle.udf_volume.specs.Maps.{sparing_stated}
 use Rattle.udf_volume.specs.Seen.{anchor_seen, extent_seen, which_seen}
 use Rattle.udf_volume.specs.Led.{IsLed, led_seen}
 use Rattle.udf_volume.specs.Opened.{IsBounded, volume_by, which_of}
@@ -72,12 +76,13 @@ nonempty limit (d ∷ list) e = omega arith
 
 -- what is stated of a kept sequence is bounded
 pub bounded : (size blocks : ℕ) (led : Led) (logical partition : List ℕ) → blocks < 2 ^ 32 → IsLed size blocks led
-    → IsBounded size blocks (volume_by size blocks (led_seen led) logical partition)
+    → is_base_lawful (option_map map_seen (sparing_stated logical)) ≡ true → IsBounded size blocks (volume_by size blocks (led_seen led) logical partition)
 unfolding volume_by limit_of
-bounded size blocks led logical partition small is = record {
+bounded size blocks led logical partition small is spared = record {
   sized = refl;
   counted = refl;
   base = inl refl;
+  spared = spared;
   anchored = is.place;
   main_inside = (both size blocks _ is.extents).0;
   reserve_inside = (both size blocks _ is.extents).1;

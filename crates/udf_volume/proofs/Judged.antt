@@ -15,6 +15,8 @@ use Rattle.udf_volume_model.specs.Rules.{ascending_places, is_eligible, eligible
 use Rattle.udf_volume_model.specs.Profile.{has_block_size}
 use Rattle.udf_volume_model.specs.Mended.{block_by, logical_block}
 use Rattle.udf_volume_model.proofs.Listed.{listed_is}
+use Rattle.udf_volume.specs.Areas.{layout_seen, layout_stated}
+use Rattle.udf_volume.specs.declared.taken.Layout as code
 use Rattle.udf_volume.specs.Seen.{extent_seen}
 use Rattle.udf_volume.specs.Spans.{kept_span, other_span, limit_stated, views_in}
 use Rattle.udf_volume.specs.Verdicts.{eligible_stated, bad_stated, anchors_suffice, kept_list, other_list, sequences_agree_in}
@@ -24,7 +26,7 @@ use Rattle.udf_volume.proofs.KeptList.{kept_front}
 use Rattle.udf_volume.proofs.Parted.{parted, none_fails}
 use Rattle.udf_volume.proofs.Prevail.{not_found}
 use Rattle.udf_volume.proofs.Profiled.{no_block_size}
-use Rattle.udf_volume.proofs.Described.{Describes, size_is, blocks_is, anchor_is, limit_is, taken_is, kept_is, other_is}
+use Rattle.udf_volume.proofs.Described.{Describes, size_is, blocks_is, anchor_is, limit_is, layout_in_is, kept_is, other_is}
 
 -- the places that are not bad are enough
 pub enough : (anchor : Anchor) (disk : ℕ → List ℕ) (eligible bad : List ℕ) → bad ≡ filter (λ place. not (is_good anchor place (disk place))) eligible
@@ -65,25 +67,26 @@ module _ (size : ℕ) (image : List ℕ) (volume : Volume) (v : model.KeptSequen
   abbrev layout : Layout
   layout = layout_in size (block_of size image) v
 
-  pub eligible_is : eligible_stated volume ≡ eligible (blocks_in size image) layout
-  unfolding eligible
-  eligible_is =
-      ap (λ a. filter (is_eligible a) (ascending_places volume.blocks)) (taken_is size image volume v d)
-      ∙ ap (λ n. filter (is_eligible (taken layout)) (ascending_places n)) (blocks_is size image volume v d)
+  module _ (taken_by : code.Layout) (is : layout_seen taken_by ≡ layout_stated volume (block_of size image)) where
+    pub eligible_is : eligible_stated volume taken_by ≡ eligible (blocks_in size image) layout
+    unfolding eligible
+    eligible_is =
+        ap (λ l. filter (is_eligible (taken l)) (ascending_places volume.blocks)) (is ∙ layout_in_is size image volume v d)
+        ∙ ap (λ n. filter (is_eligible (taken layout)) (ascending_places n)) (blocks_is size image volume v d)
 
-  pub bad_is : bad_stated volume image ≡ bad_of (block_of size image) v (eligible (blocks_in size image) layout)
-  bad_is =
-      ap (λ a. filter (λ place. not (is_good a place (block_of volume.size image place))) (eligible_stated volume)) (anchor_is size image volume v d)
-      ∙ ap (λ s. filter (λ place. not (is_good v.anchor place (block_of s image place))) (eligible_stated volume)) (size_is size image volume v d)
-      ∙ ap (λ l. filter (λ place. not (is_good v.anchor place (block_of size image place))) l) eligible_is
+    pub bad_is : bad_stated volume taken_by image ≡ bad_of (block_of size image) v (eligible (blocks_in size image) layout)
+    bad_is =
+        ap (λ a. filter (λ place. not (is_good a place (block_of volume.size image place))) (eligible_stated volume taken_by)) (anchor_is size image volume v d)
+        ∙ ap (λ s. filter (λ place. not (is_good v.anchor place (block_of s image place))) (eligible_stated volume taken_by)) (size_is size image volume v d)
+        ∙ ap (λ l. filter (λ place. not (is_good v.anchor place (block_of size image place))) l) eligible_is
 
-  -- the rule on anchors
-  pub suffice_is : anchors_suffice volume image ≡ anchors_hold (blocks_in size image) layout (block_of size image) v
-  unfolding anchors_hold
-  suffice_is =
-      ap (λ a. suffice a (block_of volume.size image) (eligible_stated volume)) (anchor_is size image volume v d)
-      ∙ ap (λ s. suffice v.anchor (block_of s image) (eligible_stated volume)) (size_is size image volume v d)
-      ∙ ap (suffice v.anchor (block_of size image)) eligible_is
+    -- the rule on anchors
+    pub suffice_is : anchors_suffice volume taken_by image ≡ anchors_hold (blocks_in size image) layout (block_of size image) v
+    unfolding anchors_hold
+    suffice_is =
+        ap (λ a. suffice a (block_of volume.size image) (eligible_stated volume taken_by)) (anchor_is size image volume v d)
+        ∙ ap (λ s. suffice v.anchor (block_of s image) (eligible_stated volume taken_by)) (size_is size image volume v d)
+        ∙ ap (suffice v.anchor (block_of size image)) eligible_is
 
   pub kept_list_is : kept_list volume image ≡ v.list
   kept_list_is =

@@ -1,6 +1,6 @@
 -- The lawful layout, test by test.
-use Rattle.std.proofs.Common.{◌≡◌, ℕ, ◌<◌, ◌≤◌, arith, refl, sym, ◌∙◌, ap, List, [], ◌∷◌, length, map, Bool, true, false, cond, ◌&&◌, eqb, ltb}
-use Rattle.std.specs.Prelude.{is_none}
+use Rattle.std.proofs.Common.{◌≡◌, ℕ, ◌<◌, ◌≤◌, arith, refl, sym, ◌∙◌, ap, List, [], ◌∷◌, length, map, Bool, true, false, cond, ◌&&◌, Option, Some, None, eqb, ltb}
+use Rattle.std.specs.Prelude.{is_none, option_map}
 use Rattle.std.specs.List.{list_all}
 use Rattle.std.proofs.lemmas.Bool.{eq-eqb, le-ltb, lt-ltb}
 use Rattle.std.proofs.lemmas.List.Folds.{list_all-map}
@@ -8,8 +8,13 @@ use Rattle.udf_volume_model.specs.Anchor.{places, anchor_in}
 use Rattle.udf_volume_model.specs.Areas as model
 use Rattle.udf_volume_model.specs.Areas.{is_outside}
 use Rattle.udf_volume_model.specs.Layout.{is_apart, are_apart, is_inside, earlier, is_passed}
-use Rattle.udf_volume.specs.Areas.{area_seen, areas_stated}
-use Rattle.udf_volume.specs.Laid.{is_bitmap_at, areas_laid, places_laid, is_laid, IsLaidOut}
+use Rattle.udf_volume_model.specs.Areas.{tables_by}
+use Rattle.udf_volume_model.specs.Anchor.{blocks_for}
+use Rattle.udf_volume_model.specs.Maps.{SparingMap}
+use Rattle.udf_layer.specs.Tables.{map_seen}
+use Rattle.udf_layer.specs.declared.maps.SparingMap as code
+use Rattle.udf_volume.specs.Areas.{area_seen, areas_stated, sparing_seen, tables_stated}
+use Rattle.udf_volume.specs.Laid.{is_bitmap_at, are_high_stated, areas_laid, places_laid, is_laid, IsLaidOut}
 use Rattle.udf_layer.specs.declared.area.Area.{Area}
 use Rattle.udf_volume.specs.declared.volume.Volume.{Volume}
 
@@ -34,12 +39,12 @@ first_apart area rest answer h t = t ∙ sym (apart_as area rest true h)
 
 module _ (volume : Volume) (areas : List Area) where
   laid_with : (inside apart : Bool) → inside ≡ list_all (λ area. is_inside volume.blocks (area_seen area)) areas → apart ≡ are_apart (map area_seen areas)
-      → areas_laid volume (map area_seen areas) ≡ (inside && (apart && (ltb 128 volume.start && is_bitmap_at volume.size volume.length volume.bitmap)))
+      → areas_laid volume (map area_seen areas) ≡ (inside && (apart && (are_high_stated volume && is_bitmap_at volume.size volume.length volume.bitmap)))
   unfolding areas_laid
   laid_with inside apart i a =
-      ap (λ x. x && (are_apart (map area_seen areas) && (ltb 128 volume.start && is_bitmap_at volume.size volume.length volume.bitmap)))
+      ap (λ x. x && (are_apart (map area_seen areas) && (are_high_stated volume && is_bitmap_at volume.size volume.length volume.bitmap)))
       (sym (i ∙ sym (list_all-map (is_inside volume.blocks) area_seen areas)))
-      ∙ ap (λ x. inside && (x && (ltb 128 volume.start && is_bitmap_at volume.size volume.length volume.bitmap))) (sym a)
+      ∙ ap (λ x. inside && (x && (are_high_stated volume && is_bitmap_at volume.size volume.length volume.bitmap))) (sym a)
 
   pub not_inside : false ≡ list_all (λ area. is_inside volume.blocks (area_seen area)) areas → false ≡ areas_laid volume (map area_seen areas)
   not_inside i = sym (laid_with false (are_apart (map area_seen areas)) i refl)
@@ -49,13 +54,35 @@ module _ (volume : Volume) (areas : List Area) where
   not_apart i a = sym (laid_with true false i a)
 
   pub too_low : true ≡ list_all (λ area. is_inside volume.blocks (area_seen area)) areas → true ≡ are_apart (map area_seen areas)
-      → volume.start ≤ 128 → false ≡ areas_laid volume (map area_seen areas)
-  too_low i a low = sym (laid_with true true i a ∙ ap (λ b. b && is_bitmap_at volume.size volume.length volume.bitmap) (le-ltb _ _ low))
+      → false ≡ are_high_stated volume → false ≡ areas_laid volume (map area_seen areas)
+  too_low i a low = sym (laid_with true true i a ∙ ap (λ b. b && is_bitmap_at volume.size volume.length volume.bitmap) (sym low))
 
   pub bitmap_left : (bitmap : Bool) → true ≡ list_all (λ area. is_inside volume.blocks (area_seen area)) areas → true ≡ are_apart (map area_seen areas)
-      → 128 < volume.start → bitmap ≡ is_bitmap_at volume.size volume.length volume.bitmap → bitmap ≡ areas_laid volume (map area_seen areas)
+      → true ≡ are_high_stated volume → bitmap ≡ is_bitmap_at volume.size volume.length volume.bitmap → bitmap ≡ areas_laid volume (map area_seen areas)
   bitmap_left bitmap i a high b =
-      b ∙ sym (laid_with true true i a ∙ ap (λ x. x && is_bitmap_at volume.size volume.length volume.bitmap) (lt-ltb _ _ high))
+      b ∙ sym (laid_with true true i a ∙ ap (λ x. x && is_bitmap_at volume.size volume.length volume.bitmap) (sym high))
+
+-- the partition and the sparing tables start high
+module _ (volume : Volume) where
+  high_by : (sparing : Option SparingMap) → sparing_seen volume ≡ sparing
+      → are_high_stated volume ≡ (ltb 128 volume.start && list_all (λ area. ltb 128 area.start) (tables_by volume.size sparing))
+  unfolding are_high_stated
+  high_by sparing e = ap (λ s. ltb 128 volume.start && list_all (λ area. ltb 128 area.start) (tables_by volume.size s)) e
+
+  pub low_partition : volume.start ≤ 128 → false ≡ are_high_stated volume
+  unfolding are_high_stated
+  low_partition low = sym (ap (λ b. b && list_all (λ area. ltb 128 area.start) (tables_stated volume)) (le-ltb _ _ low))
+
+  pub no_tables : 128 < volume.start → volume.shape.sparing ≡ None → true ≡ are_high_stated volume
+  no_tables high e = sym (high_by None (ap (option_map map_seen) e) ∙ ap (λ b. b && true) (lt-ltb _ _ high))
+
+  pub high_tables : (map : code.SparingMap) (tables : List ℕ) (answer : Bool) → 128 < volume.start → volume.shape.sparing ≡ Some map → tables ≡ (map_seen map).tables
+      → answer ≡ list_all (λ at. ltb 128 at) tables → answer ≡ are_high_stated volume
+  high_tables m tables answer high e t a =
+      a ∙ ap (list_all (λ at. ltb 128 at)) t
+      ∙ sym (high_by (Some (map_seen m)) (ap (option_map map_seen) e)
+      ∙ ap (λ b. b && list_all (λ area. ltb 128 area.start) (tables_by volume.size (Some (map_seen m)))) (lt-ltb _ _ high)
+      ∙ list_all-map (λ area. ltb 128 area.start) (λ at. record { start = at; count = blocks_for volume.size m.bytes }) (map_seen m).tables)
 
 module _ (size blocks : ℕ) (disk : ℕ → List ℕ) (areas : List model.Area) (kept : ℕ) where
   abbrev passes : List ℕ → Bool

@@ -20,3 +20,7 @@ pub mod Parted
 pub mod Parts
 pub mod Judged
 mod Sized
+pub mod Sparings
+pub mod Packets
+pub mod Openings
+pub mod Deviating

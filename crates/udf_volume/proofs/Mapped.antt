@@ -10,8 +10,10 @@ use Rattle.udf_volume_model.specs.Prevailing.{number_in}
 use Rattle.udf_volume_model.specs.Maps as model
 use Rattle.udf_volume_model.specs.Maps.{PartitionMap, Shape, begins, kind_length, length_of, lone_shape, map_at, map_count, map_table, numbered, pair_shape, first_map, second_map, second_kind, shape_of}
 use Rattle.udf_volume_model.specs.Stated.{number_by, partition_number}
-use Rattle.udf_volume.specs.Maps.{kind_of, kind_seen}
+use Rattle.udf_layer.specs.declared.maps.SparingMap.{SparingMap}
+use Rattle.udf_volume.specs.Maps.{is_sparable, kind_of, kind_seen, sparing_in, sparing_of, sparing_stated}
 use Rattle.udf_volume.specs.declared.maps.MapKind.{MapKind}
+use Rattle.udf_volume.specs.declared.maps.MapKind.TheVariants as kind
 
 same_map : (f g : ℕ → ℕ) (most a n : ℕ) → a + n ≤ most → ((i : ℕ) → i < most → f i ≡ g i) → map f (range_with_len a n) ≡ map g (range_with_len a n)
 same_map f g most a zero room same = refl
@@ -147,3 +149,22 @@ module _ (body : List ℕ) where
       sym (counted count n
       ∙ ap (λ b. cond b (lone_shape (first_map body)) (cond (count == 2) (pair_shape (first_map body) (second_map body)) None)) (sym e)
       ∙ ap (λ b. cond b (pair_shape (first_map body) (second_map body)) None) (sym g))
+
+-- what the first map says of sparing
+module _ (body table : List ℕ) (is : table ≡ map_table body) where
+  stated_as : (found : Option MapKind) → option_map kind_seen found ≡ kind_of (map_at table) → sparing_stated body ≡ sparing_of (option_map kind_seen found) table
+  unfolding sparing_stated first_map
+  stated_as found e = sym (ap (λ k. sparing_of k table) e ∙ ap (λ t. sparing_of (kind_of (map_at t)) t) is)
+
+  pub sparing_found : (found : Option MapKind) (some answer : SparingMap) → option_map kind_seen found ≡ kind_of (map_at table)
+      → found ≡ Some (kind.Sparable some) → answer ≡ sparing_in table → Some answer ≡ sparing_stated body
+  sparing_found found some answer e f s = ap Some s ∙ sym (stated_as found e ∙ ap (λ k. sparing_of (option_map kind_seen k) table) f)
+
+  pub no_sparing : (found : Option MapKind) → option_map kind_seen found ≡ kind_of (map_at table) → is_sparable found ≡ false → None ≡ sparing_stated body
+  no_sparing found e f = sym (stated_as found e ∙ by_kind found f) where
+    by_kind : (found : Option MapKind) → is_sparable found ≡ false → sparing_of (option_map kind_seen found) table ≡ None
+    by_kind None f = refl
+    by_kind (Some kind.Physical) f = refl
+    by_kind (Some (kind.Sparable map)) f = absurd (let g : true ≡ false = f in cc)
+    by_kind (Some (kind.Metadata map)) f = refl
+    by_kind (Some kind.Virtual) f = refl

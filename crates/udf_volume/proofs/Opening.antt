@@ -12,22 +12,22 @@ use Rattle.udf_volume.specs.declared.kept.AnchorSearch.TheVariants.{Nothing, Unl
 use Rattle.udf_volume.specs.Led.{Finds, led_seen}
 use Rattle.udf_volume.specs.Laid.{is_laid}
 use Rattle.udf_volume.proofs.LaidOut.{laid_is}
-use Rattle.udf_volume_model.specs.Profile.{has_block_size, has_domain, has_revision, has_pointer}
-use Rattle.udf_volume_model.specs.Layout.{is_lawful, is_spared}
+use Rattle.udf_volume_model.specs.Profile.{has_block_size, has_domain, has_revision, has_pointer, has_no_tables}
+use Rattle.udf_volume.specs.Refusals.{IsDescribed}
+use Rattle.udf_volume_model.specs.Layout.{is_lawful}
 use Rattle.udf_layer.specs.declared.missing.ProfileItem.{ProfileItem}
 use Rattle.udf_layer.specs.declared.missing.ProfileItem.TheVariants as item
 use Rattle.udf_volume_model.specs.Sequence.{Descriptor}
 use Rattle.udf_volume_model.specs.Prevailing.{prevailing}
 use Rattle.udf_volume_model.specs.Kept as model
 use Rattle.udf_volume_model.specs.Maps.{shape_of}
-use Rattle.udf_volume_model.specs.Stated.{body_of, partition_number, mapped_partition, is_lawful_shape, has_maps, is_built_shape, is_built, logical, partition, sparing}
-use Rattle.udf_volume_model.proofs.Physical.{built_physical, always_spared}
+use Rattle.udf_volume_model.specs.Stated.{body_of, partition_number, mapped_partition, is_lawful_shape, has_maps, is_built_shape, is_built, logical, partition}
 use Rattle.udf_volume.proofs.Profiled.{maps_as, built_as, maps_by}
 use Rattle.udf_volume.specs.declared.volume.Volume.{Volume}
 use Rattle.udf_volume.specs.declared.volume.Which.{Which}
 use Rattle.udf_volume.specs.declared.volume.Which.TheVariants as which
 use Rattle.udf_volume.specs.Seen.{which_seen}
-use Rattle.udf_volume.specs.Opened.{volume_by, which_of, stated_in, by_profile, by_refusal, unlike_profile, unlike_maps, refusal_of, accepted, by_volume, opening}
+use Rattle.udf_volume.specs.Opened.{volume_by, which_of, stated_in, by_profile, by_refusal, unlike_profile, unlike_maps, refusal_of, accepted, by_volume, described as described_in}
 
 pub whole_blocks : (bytes size whole : ℕ) → whole ≡ bytes / size → whole * size ≤ bytes
 whole_blocks bytes size whole is = let e : bytes / size * size + bytes % size ≡ bytes = div-add-mod' bytes size in rw is (omega arith)
@@ -93,8 +93,8 @@ by_finds size blocks disk volume any Unled (v, a) =
 by_finds size blocks disk volume any (Kept led) v = ap (by_volume size blocks disk any) v
 
 module _ (size n : ℕ) (image : List ℕ) (is : n ≡ length image) where
-  pub too_large : 4294967295 < n / size → opening size image ≡ Err missing.TooLarge
-  unfolding opening
+  pub too_large : 4294967295 < n / size → described_in size image ≡ Err missing.TooLarge
+  unfolding described_in
   too_large h =
       let many : ltb 4294967295 (length image / size) ≡ true = lt-ltb _ _ (let P : ℕ → Type 0 = λ k. 4294967295 < k / size in subst P is h) in
       ap (λ (b : Bool). cond b (Err missing.TooLarge)
@@ -103,8 +103,8 @@ module _ (size n : ℕ) (image : List ℕ) (is : n ≡ length image) where
 
   pub opened_as : (list : List ℕ) (found : AnchorSearch) → n / size ≤ 4294967295 → list ≡ places (n / size)
       → Finds (kept_sequence_in size (n / size) (block_of size image) list) (has_anchor size (n / size) (block_of size image) list) found
-      → opening size image ≡ answer_of size (n / size) (block_of size image) found
-  unfolding opening kept_sequence_of
+      → described_in size image ≡ answer_of size (n / size) (block_of size image) found
+  unfolding described_in kept_sequence_of
   opened_as list found h at f =
       let few : ltb 4294967295 (length image / size) ≡ false = le-ltb _ _ (let P : ℕ → Type 0 = λ k. k / size ≤ 4294967295 in subst P is h) in
       let expected : ℕ → Result Volume Missing = λ k. by_volume size (k / size) (block_of size image)
@@ -137,13 +137,34 @@ like_is_built size list e =
     built_by list (has_maps list) (is_built list) refl refl
     (maps_of list (has_block_size size list) (has_domain list) (has_revision list) (has_pointer list) (unlike_maps list) e)
 
+of_item : (item one : ProfileItem) → Some one ≡ Some item → IsDescribed item → IsDescribed one
+of_item item one is e = let same : one ≡ item = cc in let P : ProfileItem → Type 0 = λ i. IsDescribed i in subst P (sym same) e
+
+-- what is asked is of the description
+is_described : (a b c d e f g : Bool) (one : ProfileItem) → Some one ≡ cond (not a) (Some item.BlockSize) (cond (not b) (Some item.Domain) (cond (not c) (Some item.Revision)
+    (cond d (Some item.VolumePointer) (cond (not e) (Some item.PartitionMaps) (cond (not f) (Some item.Unbuilt) (cond (not g) (Some item.SpaceTables) None))))))
+    → IsDescribed one
+is_described false b c d e f g one is = of_item item.BlockSize one is tt
+is_described true false c d e f g one is = of_item item.Domain one is tt
+is_described true true false d e f g one is = of_item item.Revision one is tt
+is_described true true true true e f g one is = of_item item.VolumePointer one is tt
+is_described true true true false false f g one is = of_item item.PartitionMaps one is tt
+is_described true true true false true false g one is = of_item item.Unbuilt one is tt
+is_described true true true false true true false one is = of_item item.SpaceTables one is tt
+is_described true true true false true true true one is = absurd (let none : Some one ≡ None = is in cc)
+
+pub asks_described : (size : ℕ) (list : List Descriptor) (one : ProfileItem) → Some one ≡ unlike_profile size list → IsDescribed one
+unfolding unlike_profile unlike_maps
+asks_described size list one e =
+    is_described (has_block_size size list) (has_domain list) (has_revision list) (has_pointer list) (has_maps list) (is_built list) (has_no_tables list) one e
+
 module _ (size blocks : ℕ) (disk : ℕ → List ℕ) (v : model.KeptSequence) where
   abbrev fields : Volume
   fields = volume_by size blocks v (logical v.list) (partition v.list)
 
   pub unlike : (item : ProfileItem) → Some item ≡ unlike_profile size v.list → accepted size blocks disk v ≡ Err (missing.Profile item)
   unfolding accepted refusal_of
-  unlike item e = ap (λ p. by_refusal (by_profile p (is_lawful size blocks disk v) (is_spared size blocks disk v)) fields) (sym e)
+  unlike item e = ap (λ p. by_refusal (by_profile p (is_lawful size blocks disk v)) fields) (sym e)
 
   stated_as : unlike_profile size v.list ≡ None → stated_in size blocks v ≡ Some fields
   stated_as e = let like = like_is_built size v.list e in stated_by size blocks v true true like.0 like.1
@@ -155,21 +176,19 @@ module _ (size blocks : ℕ) (disk : ℕ → List ℕ) (v : model.KeptSequence) 
   volume_is : (volume : Volume) → None ≡ unlike_profile size v.list → Some volume ≡ stated_in size blocks v → volume ≡ fields
   volume_is volume e is = let same : Some volume ≡ Some fields = is ∙ stated_as (sym e) in cc
 
-  physical : None ≡ unlike_profile size v.list → sparing v.list ≡ None
-  physical e = built_physical v.list (like_is_built size v.list (sym e)).1
+  -- the maps of a volume that is stated are built
+  pub are_built : unlike_profile size v.list ≡ None → is_built v.list ≡ true
+  are_built e = (like_is_built size v.list e).1
 
-  -- a physical partition has no packets that could be unlawful
-  by_layout : None ≡ unlike_profile size v.list → accepted size blocks disk v ≡ by_refusal (cond (not (is_lawful size blocks disk v)) (Some missing.Layout) None) fields
+  by_layout : None ≡ unlike_profile size v.list → accepted size blocks disk v ≡ by_refusal (by_profile None (is_lawful size blocks disk v)) fields
   unfolding accepted refusal_of
-  by_layout e =
-      ap (λ p. by_refusal (by_profile p (is_lawful size blocks disk v) (is_spared size blocks disk v)) fields) (sym e)
-      ∙ ap (λ b. by_refusal (by_profile None (is_lawful size blocks disk v) b) fields) (always_spared size blocks disk v (physical e))
+  by_layout e = ap (λ p. by_refusal (by_profile p (is_lawful size blocks disk v)) fields) (sym e)
 
   laid_as : (volume : Volume) (laid : Bool) → None ≡ unlike_profile size v.list → Some volume ≡ stated_in size blocks v → laid ≡ is_laid volume disk
-      → accepted size blocks disk v ≡ by_refusal (cond (not laid) (Some missing.Layout) None) fields
+      → accepted size blocks disk v ≡ by_refusal (by_profile None laid) fields
   laid_as volume laid e is f =
-      by_layout e ∙ ap (λ b. by_refusal (cond (not b) (Some missing.Layout) None) fields)
-      (sym (laid_is size blocks v (physical e) disk) ∙ ap (λ x. is_laid x disk) (sym (volume_is volume e is)) ∙ sym f)
+      by_layout e ∙ ap (λ b. by_refusal (by_profile None b) fields)
+      (sym (laid_is size blocks v (are_built (sym e)) disk) ∙ ap (λ x. is_laid x disk) (sym (volume_is volume e is)) ∙ sym f)
 
   pub unlaid : (volume : Volume) → None ≡ unlike_profile size v.list → Some volume ≡ stated_in size blocks v → false ≡ is_laid volume disk
       → accepted size blocks disk v ≡ Err missing.Layout

@@ -10,33 +10,36 @@ use Rattle.udf_volume_model.specs.Stated.{has_maps, is_built, logical, partition
 use Rattle.udf_volume_model.specs.Profile.{has_block_size, has_domain, has_revision, has_pointer, has_no_tables, is_profile, is_protected as is_protected_list, is_guarded_list}
 use Rattle.udf_volume_model.specs.Layout.{is_lawful, is_spared}
 use Rattle.udf_volume_model.specs.Opened.{is_opened, is_opened_by, is_protected_by, is_protected_image}
-use Rattle.udf_layer.specs.declared.missing.Missing.{Missing}
 use Rattle.udf_layer.specs.declared.missing.Missing.TheVariants as missing
 use Rattle.udf_layer.specs.declared.missing.LayerStop.{LayerStop}
 use Rattle.udf_layer.specs.declared.missing.LayerStop.TheVariants as stops
 use Rattle.udf_layer.specs.declared.missing.ProfileItem.{ProfileItem}
 use Rattle.udf_layer.specs.declared.missing.ProfileItem.TheVariants as item
 use Rattle.udf_volume.specs.declared.volume.Volume.{Volume}
-use Rattle.udf_volume.specs.Opened.{Answers, volume_by, is_guarded, unlike_profile, unlike_maps, by_profile, by_refusal, refusal_of, accepted, by_volume, opening}
+use Rattle.udf_volume.specs.Opened.{volume_by, is_guarded, unlike_profile, unlike_maps, by_profile, by_refusal, refusal_of, accepted, by_volume, described}
+use Rattle.udf_volume.specs.Taken.{Opens, by_packets, is_spared_stated, opening}
+use Rattle.udf_volume.specs.declared.opened.Opened.{Opened}
+use Rattle.udf_volume.proofs.LaidOut.{spared_is}
+use Rattle.udf_volume.proofs.Opening.{are_built}
 use Rattle.udf_volume.specs.Writable.{is_protected, by_protection, writable_opening}
 
-module _ (size : ℕ) (image : List ℕ) where
-  refused_first : (missing : Missing) → opening size image ≡ Err missing → writable_opening size image ≡ Err missing
+module _ (size : ℕ) (image : List ℕ) (disk : ℕ → List ℕ) where
+  pub refused_as : (stop : LayerStop) → Opens (opening size image) disk (Err stop) → Opens (writable_opening size image) disk (Err stop)
   unfolding writable_opening
-  refused_first missing e = ap by_protection e
-
-  pub refused_as : (stop : LayerStop) → Answers (opening size image) (Err stop) → Answers (writable_opening size image) (Err stop)
-  refused_as (stops.Missing missing) e = refused_first missing e
+  refused_as (stops.Missing missing) e = ap by_protection e
   refused_as stops.Fault e = tt
   refused_as stops.Memory e = tt
 
-  pub protected : (volume : Volume) → opening size image ≡ Ok volume → true ≡ is_protected volume → writable_opening size image ≡ Err missing.WriteProtected
-  unfolding writable_opening
-  protected volume e p = ap by_protection e ∙ ap (λ b. cond b (Err missing.WriteProtected) (Ok volume)) (sym p)
+  module _ (opened : Opened) (is : Opens (opening size image) disk (Ok opened)) where
+    writable_as : writable_opening size image ≡ cond (is_protected opened.volume) (Err missing.WriteProtected) (Ok opened.volume)
+    unfolding writable_opening
+    writable_as = ap by_protection is.0
 
-  pub unprotected : (volume : Volume) → opening size image ≡ Ok volume → false ≡ is_protected volume → writable_opening size image ≡ Ok volume
-  unfolding writable_opening
-  unprotected volume e p = ap by_protection e ∙ ap (λ b. cond b (Err missing.WriteProtected) (Ok volume)) (sym p)
+    pub protected : true ≡ is_protected opened.volume → writable_opening size image ≡ Err missing.WriteProtected
+    protected p = writable_as ∙ ap (λ b. cond b (Err missing.WriteProtected) (Ok opened.volume)) (sym p)
+
+    pub unprotected : false ≡ is_protected opened.volume → Opens (writable_opening size image) disk (Ok opened)
+    unprotected p = (writable_as ∙ ap (λ b. cond b (Err missing.WriteProtected) (Ok opened.volume)) (sym p), is.1)
 
 by_tests : (a b c d e f g : Bool) → (a && (b && (c && (not d && (e && (f && g))))))
     ≡ is_none (cond (not a) (Some item.BlockSize) (cond (not b) (Some item.Domain) (cond (not c) (Some item.Revision) (cond d (Some item.VolumePointer)
@@ -59,38 +62,55 @@ protected_is : (size blocks : ℕ) (v : model.KeptSequence) → is_protected (vo
 unfolding is_protected volume_by is_protected_list is_guarded is_guarded_list
 protected_is size blocks v = refl
 
--- with write protection, or without
-by_parts : (item : Option ProfileItem) (lawful spared : Bool) (volume : Volume)
-    → (is_none item && (lawful && spared)) ≡ is_ok (by_refusal (by_profile item lawful spared) volume)
-by_parts (Some item) lawful spared volume = refl
-by_parts None false spared volume = refl
-by_parts None true false volume = refl
-by_parts None true true volume = refl
+passed : (b : Bool) (volume : Volume) → b ≡ is_ok (cond b (Ok volume) (Err missing.SparingTable))
+passed true volume = refl
+passed false volume = refl
 
-by_guard : (item : Option ProfileItem) (lawful spared guarded : Bool) (volume : Volume) → is_protected volume ≡ guarded
-    → ((is_none item && (lawful && spared)) && not guarded) ≡ is_ok (by_protection (by_refusal (by_profile item lawful spared) volume))
-by_guard (Some item) lawful spared guarded volume e = refl
-by_guard None false spared guarded volume e = refl
-by_guard None true false guarded volume e = refl
-by_guard None true true true volume e = sym (ap (λ b. is_ok (cond b (Err missing.WriteProtected) (Ok volume))) e)
-by_guard None true true false volume e = sym (ap (λ b. is_ok (cond b (Err missing.WriteProtected) (Ok volume))) e)
+both_guards : (spared guarded : Bool) (volume : Volume) → is_protected volume ≡ guarded
+    → (spared && not guarded) ≡ is_ok (by_protection (cond spared (Ok volume) (Err missing.SparingTable)))
+both_guards true true volume e = sym (ap (λ b. is_ok (cond b (Err missing.WriteProtected) (Ok volume))) e)
+both_guards true false volume e = sym (ap (λ b. is_ok (cond b (Err missing.WriteProtected) (Ok volume))) e)
+both_guards false held volume e = refl
+
+-- with write protection, or without
+module _ (size blocks : ℕ) (disk : ℕ → List ℕ) (v : model.KeptSequence) where
+  abbrev fields : Volume
+  fields = volume_by size blocks v (logical v.list) (partition v.list)
+
+  spared : unlike_profile size v.list ≡ None → is_spared_stated fields disk ≡ is_spared size blocks disk v
+  spared e = spared_is size blocks v (are_built size blocks disk v e) disk
+
+  by_parts : (item : Option ProfileItem) (lawful : Bool) → unlike_profile size v.list ≡ item
+      → (is_none item && (lawful && is_spared size blocks disk v)) ≡ is_ok (by_packets disk (by_refusal (by_profile item lawful) fields))
+  by_parts (Some item) lawful e = refl
+  by_parts None false e = refl
+  by_parts None true e =
+      passed (is_spared size blocks disk v) fields ∙ ap (λ b. is_ok (cond b (Ok fields) (Err missing.SparingTable))) (sym (spared e))
+
+  by_guard : (item : Option ProfileItem) (lawful : Bool) → unlike_profile size v.list ≡ item
+      → ((is_none item && (lawful && is_spared size blocks disk v)) && not (is_protected_list v.list))
+      ≡ is_ok (by_protection (by_packets disk (by_refusal (by_profile item lawful) fields)))
+  by_guard (Some item) lawful e = refl
+  by_guard None false e = refl
+  by_guard None true e =
+      both_guards (is_spared size blocks disk v) (is_protected_list v.list) fields (protected_is size blocks v)
+      ∙ ap (λ b. is_ok (by_protection (cond b (Ok fields) (Err missing.SparingTable)))) (sym (spared e))
 
 module _ (size blocks : ℕ) (disk : ℕ → List ℕ) (any : Bool) where
-  kept_is : (found : Option model.KeptSequence) → is_opened_by size blocks disk found ≡ is_ok (by_volume size blocks disk any found)
+  kept_is : (found : Option model.KeptSequence) → is_opened_by size blocks disk found ≡ is_ok (by_packets disk (by_volume size blocks disk any found))
   unfolding accepted refusal_of
-  kept_is None = elim any as (λ b. false ≡ is_ok (by_volume size blocks disk b None)) [ true ↦ refl | false ↦ refl ]
+  kept_is None = elim any as (λ b. false ≡ is_ok (by_packets disk (by_volume size blocks disk b None))) [ true ↦ refl | false ↦ refl ]
   kept_is (Some v) =
       ap (λ b. b && (is_lawful size blocks disk v && is_spared size blocks disk v)) (profile_is size v.list)
-      ∙ by_parts (unlike_profile size v.list) (is_lawful size blocks disk v) (is_spared size blocks disk v) (volume_by size blocks v (logical v.list) (partition v.list))
+      ∙ by_parts size blocks disk v (unlike_profile size v.list) (is_lawful size blocks disk v) refl
 
   guarded_is : (found : Option model.KeptSequence)
-      → (is_opened_by size blocks disk found && not (is_protected_by found)) ≡ is_ok (by_protection (by_volume size blocks disk any found))
+      → (is_opened_by size blocks disk found && not (is_protected_by found)) ≡ is_ok (by_protection (by_packets disk (by_volume size blocks disk any found)))
   unfolding accepted refusal_of
-  guarded_is None = elim any as (λ b. false ≡ is_ok (by_protection (by_volume size blocks disk b None))) [ true ↦ refl | false ↦ refl ]
+  guarded_is None = elim any as (λ b. false ≡ is_ok (by_protection (by_packets disk (by_volume size blocks disk b None)))) [ true ↦ refl | false ↦ refl ]
   guarded_is (Some v) =
       ap (λ b. (b && (is_lawful size blocks disk v && is_spared size blocks disk v)) && not (is_protected_list v.list)) (profile_is size v.list)
-      ∙ by_guard (unlike_profile size v.list) (is_lawful size blocks disk v) (is_spared size blocks disk v) (is_protected_list v.list) (volume_by size blocks v (logical v.list) (partition v.list))
-      (protected_is size blocks v)
+      ∙ by_guard size blocks disk v (unlike_profile size v.list) (is_lawful size blocks disk v) refl
 
 fewer : (n : ℕ) → ltb n 4294967296 ≡ not (ltb 4294967295 n)
 fewer n = grind arith
@@ -100,21 +120,21 @@ module _ (size : ℕ) (image : List ℕ) where
   any = has_anchor size (blocks_in size image) (block_of size image) (places (blocks_in size image))
 
   pub opened_is : is_opened size image ≡ is_ok (opening size image)
-  unfolding is_opened opening any
+  unfolding is_opened opening described any
   opened_is =
       ap (λ b. b && is_opened_by size (blocks_in size image) (block_of size image) (kept_sequence_of size image)) (fewer (blocks_in size image))
       ∙ by_count (ltb 4294967295 (blocks_in size image)) where
         by_count : (b : Bool) → (not b && is_opened_by size (blocks_in size image) (block_of size image) (kept_sequence_of size image))
-            ≡ is_ok (cond b (Err missing.TooLarge) (by_volume size (blocks_in size image) (block_of size image) any (kept_sequence_of size image)))
+            ≡ is_ok (by_packets (block_of size image) (cond b (Err missing.TooLarge) (by_volume size (blocks_in size image) (block_of size image) any (kept_sequence_of size image))))
         by_count true = refl
         by_count false = kept_is size (blocks_in size image) (block_of size image) any (kept_sequence_of size image)
 
   pub writable_is : (is_opened size image && not (is_protected_image size image)) ≡ is_ok (writable_opening size image)
-  unfolding is_opened is_protected_image writable_opening opening any
+  unfolding is_opened is_protected_image writable_opening opening described any
   writable_is =
       ap (λ b. (b && is_opened_by size (blocks_in size image) (block_of size image) (kept_sequence_of size image)) && not (is_protected_by (kept_sequence_of size image))) (fewer (blocks_in size image))
       ∙ by_count (ltb 4294967295 (blocks_in size image)) where
         by_count : (b : Bool) → ((not b && is_opened_by size (blocks_in size image) (block_of size image) (kept_sequence_of size image)) && not (is_protected_by (kept_sequence_of size image)))
-            ≡ is_ok (by_protection (cond b (Err missing.TooLarge) (by_volume size (blocks_in size image) (block_of size image) any (kept_sequence_of size image))))
+            ≡ is_ok (by_protection (by_packets (block_of size image) (cond b (Err missing.TooLarge) (by_volume size (blocks_in size image) (block_of size image) any (kept_sequence_of size image)))))
         by_count true = refl
         by_count false = guarded_is size (blocks_in size image) (block_of size image) any (kept_sequence_of size image)

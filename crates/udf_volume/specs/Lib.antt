@@ -4,11 +4,12 @@ pub mod Seen
 pub mod Best
 pub mod Leads
 pub mod Led
-pub mod Opened
-pub mod Over
 pub mod Areas
 pub mod Spans
+pub mod Opened
+pub mod Over
 pub mod Laid
+pub mod Taken
 pub mod Writable
 pub mod Refusals
 pub mod Verdicts

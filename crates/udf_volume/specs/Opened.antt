@@ -7,11 +7,14 @@ use Rattle.udf_volume_model.specs.Kept as model_kept
 use Rattle.udf_volume_model.specs.Kept.{kept, kept_sequence_of, has_anchor}
 use Rattle.udf_volume_model.specs.Sequence.{Descriptor}
 use Rattle.udf_volume_model.specs.Profile.{has_block_size, has_domain, has_revision, has_pointer, has_no_tables}
-use Rattle.udf_volume_model.specs.Layout.{is_lawful, is_spared}
+use Rattle.udf_volume_model.specs.Layout.{is_lawful}
+use Rattle.udf_volume_model.specs.Maps.{is_base_lawful}
 use Rattle.udf_volume_model.specs.Stated.{partition_number, logical, partition, has_maps, is_built, volume_information}
 use Rattle.udf_field.specs.FieldView.{short_at, long_at, span_at}
 use Rattle.udf_field.specs.declared.address.Short.{Short}
 use Rattle.udf_volume.specs.Seen.{extent_seen, span_of}
+use Rattle.udf_volume.specs.Maps.{sparing_stated}
+use Rattle.udf_volume.specs.Areas.{sparing_seen}
 use Rattle.udf_volume.specs.Spans.{kept_span, limit_stated}
 use Rattle.udf_volume.specs.declared.volume.Which.{Which}
 use Rattle.udf_volume.specs.declared.volume.Which.TheVariants as which
@@ -54,7 +57,7 @@ volume_by size blocks volume logical partition = record {
   lvd = unwrap_or (sector_in volume 6 []) 0;
   pd = unwrap_or (sector_in volume 5 (partition_number logical)) 0;
   info = sector_in volume 4 volume_information;
-  shape = record { base = 0; sparing = None; upper = Absent };
+  shape = record { base = 0; sparing = sparing_stated logical; upper = Absent };
   start = number_in 4 partition 188;
   length = number_in 4 partition 192;
   bitmap = bitmap_in partition;
@@ -87,13 +90,13 @@ unlike_profile size list =
     else if has_pointer list then Some item.VolumePointer
     else unlike_maps list
 
-abbrev pub by_profile : Option ProfileItem → Bool → Bool → Option Missing
-by_profile (Some item) lawful spared = Some (missing.Profile item)
-by_profile None lawful spared = if not lawful then Some missing.Layout else if not spared then Some missing.SparingTable else None
+abbrev pub by_profile : Option ProfileItem → Bool → Option Missing
+by_profile (Some item) lawful = Some (missing.Profile item)
+by_profile None lawful = if lawful then None else Some missing.Layout
 
 -- the first refusal of a kept sequence
 unfoldable pub refusal_of : ℕ → ℕ → (ℕ → List ℕ) → model_kept.KeptSequence → Option Missing
-refusal_of size blocks disk volume = by_profile (unlike_profile size volume.list) (is_lawful size blocks disk volume) (is_spared size blocks disk volume)
+refusal_of size blocks disk volume = by_profile (unlike_profile size volume.list) (is_lawful size blocks disk volume)
 
 abbrev pub by_refusal : Option Missing → Volume → Result Volume Missing
 by_refusal (Some missing) volume = Err missing
@@ -108,9 +111,9 @@ abbrev pub by_volume : ℕ → ℕ → (ℕ → List ℕ) → Bool → Option mo
 by_volume size blocks disk any None = if any then Err missing.Sequence else Err missing.Anchor
 by_volume size blocks disk any (Some volume) = accepted size blocks disk volume
 
--- the first refusal that applies, or the volume
-unfoldable pub opening : ℕ → List ℕ → Result Volume Missing
-opening size image =
+-- the first refusal that applies up to that of the layout, or the volume
+unfoldable pub described : ℕ → List ℕ → Result Volume Missing
+described size image =
     if nat_lt 4294967295 (blocks_in size image) then Err missing.TooLarge
     else by_volume size (blocks_in size image) (block_of size image)
     (has_anchor size (blocks_in size image) (block_of size image) (places (blocks_in size image)))
@@ -128,6 +131,7 @@ pub record IsBounded (size blocks : ℕ) (volume : Volume) : Type 0 where
   pub sized : volume.size ≡ size
   pub counted : volume.blocks ≡ blocks
   pub base : (volume.shape.base ≡ 0) ⊎ (volume.shape.base ≡ 1)
+  pub spared : is_base_lawful (sparing_seen volume) ≡ true
   pub anchored : volume.anchor < blocks
   pub main_inside : is_extent size blocks (extent_seen volume.main) ≡ true
   pub reserve_inside : is_extent size blocks (extent_seen volume.reserve) ≡ true

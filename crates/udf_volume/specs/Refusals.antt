@@ -1,17 +1,49 @@
 -- Which refusals a call can answer, also over a bench that tells nothing.
 use Rattle.udf_layer.specs.declared.missing.Missing.{Missing}
 use Rattle.udf_layer.specs.declared.missing.Missing.TheVariants as missing
+use Rattle.udf_layer.specs.declared.missing.ProfileItem.{ProfileItem}
+use Rattle.udf_layer.specs.declared.missing.ProfileItem.TheVariants as item
 use Rattle.udf_layer.specs.declared.missing.LayerStop.{LayerStop}
 use Rattle.udf_layer.specs.declared.missing.LayerStop.TheVariants as stops
 
--- a refusal of the volume's description: any but write protection, which refuses a repair alone
+-- what a volume's description may ask; the other items are of its entries
+abbrev pub IsDescribed : ProfileItem → Type 0
+IsDescribed item.BlockSize = Unit {0}
+IsDescribed item.Domain = Unit {0}
+IsDescribed item.Revision = Unit {0}
+IsDescribed item.VolumePointer = Unit {0}
+IsDescribed item.PartitionMaps = Unit {0}
+IsDescribed item.Unbuilt = Unit {0}
+IsDescribed item.SpaceTables = Unit {0}
+IsDescribed item.Strategy = ⊥
+IsDescribed item.ExtendedDescriptors = ⊥
+IsDescribed item.AttributeFile = ⊥
+
+-- a refusal of the volume's description, before its sparing tables are read
+abbrev pub IsOfDescription : Missing → Type 0
+IsOfDescription missing.TooLarge = Unit {0}
+IsOfDescription missing.Anchor = Unit {0}
+IsOfDescription missing.Sequence = Unit {0}
+IsOfDescription (missing.Profile item) = IsDescribed item
+IsOfDescription missing.Layout = Unit {0}
+IsOfDescription missing.SparingTable = ⊥
+IsOfDescription missing.RootDirectory = ⊥
+IsOfDescription missing.WriteProtected = ⊥
+
+abbrev pub RefusesDescription : LayerStop → Type 0
+RefusesDescription (stops.Missing reason) = IsOfDescription reason
+RefusesDescription stops.Fault = Unit {0}
+RefusesDescription stops.Memory = Unit {0}
+
+-- a refusal of a volume: none of its entries, and not write protection, which refuses a repair alone
 abbrev pub IsOfVolume : Missing → Type 0
 IsOfVolume missing.TooLarge = Unit {0}
 IsOfVolume missing.Anchor = Unit {0}
 IsOfVolume missing.Sequence = Unit {0}
-IsOfVolume (missing.Profile item) = Unit {0}
+IsOfVolume (missing.Profile item) = IsDescribed item
 IsOfVolume missing.Layout = Unit {0}
 IsOfVolume missing.SparingTable = Unit {0}
+IsOfVolume missing.RootDirectory = ⊥
 IsOfVolume missing.WriteProtected = ⊥
 
 abbrev pub RefusesVolume : LayerStop → Type 0

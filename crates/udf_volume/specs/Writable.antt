@@ -4,7 +4,7 @@ use Rattle.udf_volume_model.specs.Profile.{is_rewritable}
 use Rattle.udf_volume.specs.declared.volume.Volume.{Volume}
 use Rattle.udf_layer.specs.declared.missing.Missing.{Missing}
 use Rattle.udf_layer.specs.declared.missing.Missing.TheVariants.{WriteProtected}
-use Rattle.udf_volume.specs.Opened.{opening}
+use Rattle.udf_volume.specs.Taken.{opening}
 
 -- a protection bit stands, or the access type forbids rewriting
 unfoldable pub is_protected : Volume → Bool

@@ -14,7 +14,7 @@ ghost use Rattle.udf_volume.specs.Verdicts.{IsPart, HasPlaces, JudgesAnchors};
 
 use crate::anchor::ANCHOR;
 use crate::area::eligible_places;
-use crate::{Volume, WorkStop};
+use crate::{Layout, Volume, WorkStop};
 use std::alloc::Global;
 use udf_field::{Fields, id_at};
 use udf_outside::{Bench, read_block};
@@ -83,20 +83,21 @@ fn are_enough(eligible: &[u32], bad: &[u32]) -> bool
     ENOUGH <= eligible.len() - bad.len() || bad.is_empty()
 }
 
-/// The verdict of the rule on anchors on a volume. `block` is lent and has the block size.
+/// The verdict of the rule on anchors on a volume with its layout. `block` is lent and has the block size.
 pub fn anchor_verdict<B: Bench>(
     alloc: Global,
     bench: &mut B,
     volume: &Volume,
+    layout: &Layout,
     block: &mut [u8],
 ) -> Result<AnchorVerdict, WorkStop>
     requires over { IsOver volume.now (B.files bench.old) }
     requires room { length block.old ≡ volume.now.size }
-    ensures verdict { B.tells → IfOk result (JudgesAnchors volume.now (bytes_of Image (B.held bench.old))) }
-    ensures places { IfOk result (HasPlaces volume.now) }
+    ensures verdict { B.tells → IfOk result (JudgesAnchors volume.now layout.now (bytes_of Image (B.held bench.old))) }
+    ensures places { IfOk result (HasPlaces volume.now layout.now) }
     ensures reads { OnlyReads B.files B.held B.faults bench.old bench.new WorkStop.Fault result }
 {
-    let eligible = eligible_places(alloc, volume)?;
+    let eligible = eligible_places(alloc, volume, layout)?;
     let bad = bad_places(alloc, bench, volume, &eligible, block)?;
     let holds = are_enough(&eligible, &bad);
     Ok(AnchorVerdict {

@@ -1,11 +1,11 @@
-//! The lawful layout of a volume's areas.
-ghost use Rattle.std.specs.Prelude.{◌≡◌, ◌≤◌, ◌<◌, length, map, IfOk, true};
+//! The lawful layout of a volume's areas, but for the packets of its sparing table.
+ghost use Rattle.std.specs.Prelude.{◌≡◌, ◌≤◌, ◌<◌, nat_lt, length, map, IfOk, true};
 ghost use Rattle.std.specs.List.{AllByRecursion, list_all};
 ghost use Rattle.udf_outside.specs.Reads.{OnlyReads, failed};
 ghost use Rattle.udf_outside.specs.Sectors.{disk_of};
 ghost use Rattle.udf_volume_model.specs.Layout.{is_apart as apart, are_apart as all_apart, is_inside as inside, is_bitmap as bitmap_holds, earlier, is_passed};
 ghost use Rattle.udf_volume.specs.Areas.{area_seen};
-ghost use Rattle.udf_volume.specs.Laid.{is_bitmap_at, areas_laid, is_laid as laid, IsLaidOut};
+ghost use Rattle.udf_volume.specs.Laid.{is_bitmap_at, are_high_stated, areas_laid, is_laid as laid, IsLaidOut};
 ghost use Rattle.udf_volume.specs.Over.{IsOver};
 
 use crate::anchor::{anchor_of, blocks_of, places_of};
@@ -14,7 +14,7 @@ use std::alloc::Global;
 use udf_field::Short;
 use udf_outside::{Bench, Failed, read_block};
 
-/// The partition starts above this block.
+/// The partition and the sparing tables start above this block.
 const LAST_RESERVED: u32 = 128;
 
 /// The bytes of a space bitmap before its bits (ECMA-167 4/14.12).
@@ -82,6 +82,26 @@ fn is_bitmap_lawful(volume: &Volume) -> bool
     }
 }
 
+fn all_start_high(sectors: &[u32]) -> bool
+    ensures { result ≡ list_all (λ at. nat_lt 128 at) sectors.now }
+{
+    sectors.iter().all(|at| LAST_RESERVED < *at)
+}
+
+// Whether the partition and the sparing tables start high.
+#[tactic(auto, using(crate::proofs::Laying::low_partition, crate::proofs::Laying::no_tables, crate::proofs::Laying::high_tables))]
+fn are_high(volume: &Volume) -> bool
+    ensures { result ≡ are_high_stated volume.now }
+{
+    if volume.start <= LAST_RESERVED {
+        return false;
+    }
+    match &volume.shape.sparing {
+        None => true,
+        Some(map) => all_start_high(map.tables()),
+    }
+}
+
 // Whether the areas lie as they must.
 #[tactic(auto, using(crate::proofs::Laying::not_inside, crate::proofs::Laying::not_apart, crate::proofs::Laying::too_low, crate::proofs::Laying::bitmap_left))]
 fn are_laid(volume: &Volume, areas: &[Area]) -> bool
@@ -94,7 +114,7 @@ fn are_laid(volume: &Volume, areas: &[Area]) -> bool
     if !are_apart(areas) {
         return false;
     }
-    if volume.start <= LAST_RESERVED {
+    if !are_high(volume) {
         return false;
     }
     is_bitmap_lawful(volume)
@@ -135,7 +155,7 @@ fn are_passed<B: Bench>(
 }
 
 /// Whether the layout is lawful: the areas lie in the image and are pairwise apart, the kept anchor lies in none of them,
-/// the partition starts above block 128 and holds its bitmap, and each place before the kept one lies in no area and holds
+/// the partition and the sparing tables start above block 128, the partition holds its bitmap, and each place before the kept one lies in no area and holds
 /// no whole anchor. `block` is lent and has the block size.
 #[tactic(auto, using(crate::proofs::Laying::not_laid, crate::proofs::Laying::anchor_in_area, crate::proofs::Laying::laid_by, crate::proofs::Laying::laid_out))]
 pub(crate) fn is_lawful<B: Bench>(

@@ -1,8 +1,8 @@
 //! The volume of an image: its anchors, the kept descriptor sequence, and what the prevailing descriptors state.
-//! Towards the layer above: `open_volume` answers the first refusal that applies, or a `Volume` whose every field is what
-//! the descriptors state; `open_writable` refuses a protected volume too; `read_descriptors` gives the list of
-//! an extent; `anchor_verdict` and `sequence_verdict` judge a volume by the rules, for the check and for the planner. It stands
-//! on fields and tags, on the bench, and on the definitions of volumes.
+//! Towards the layer above: `open_layout` answers the first refusal that applies, or a `Volume` whose every field is what
+//! the descriptors state, with its `Layout`, which is computed once; `open_writable` refuses a protected volume too;
+//! `read_descriptors` gives the list of an extent; `anchor_verdict`, `sequence_verdict` and `table_verdict` judge a volume by the
+//! rules, for the check and for the planner. It stands on fields and tags, on the bench, on sparing tables, and on the definitions of volumes.
 #![tactic(auto)]
 
 mod agreement;
@@ -17,11 +17,14 @@ mod maps;
 mod matter;
 mod offset;
 mod open;
+mod opened;
 mod prevailing;
 mod profile;
 mod ranked;
 mod sequence;
 mod size;
+mod tables;
+mod taken;
 mod volume;
 mod writable;
 
@@ -31,8 +34,12 @@ pub use area::{areas_of, lies_outside};
 pub use descriptor::{Descriptor, TERMINATING};
 pub use good_anchors::{AnchorVerdict, anchor_verdict};
 pub use open::open_volume;
+pub use opened::{Opened, open_layout, open_writable, opened_law};
 pub use sequence::{DescriptorList, read_descriptors};
 pub use size::{block_size, found_size};
-pub use udf_layer::{Area, LayerStop, MetaMap, Missing, ProfileItem, SparingMap, WorkStop};
+pub use tables::table_verdict;
+pub use taken::{Layout, layout_of};
+pub use udf_layer::{
+    Area, Deviation, LayerStop, MetaMap, Missing, ProfileItem, SparingMap, TableVerdict, WorkStop,
+};
 pub use volume::{Shape, Upper, Volume, Which};
-pub use writable::{open_writable, opened_law};

@@ -3,7 +3,7 @@ ghost use Rattle.std.specs.Prelude.{◌≡◌, ◌≤◌, ℕ, List, IfSome, dro
 ghost use Rattle.udf_layer.specs.Tables.{map_seen};
 ghost use Rattle.udf_volume_model.specs.Maps.{begins as begins_in, kind_length, length_of as length_of_map, lone_shape as lone_shape_in, map_at, map_table as map_table_in, pair_shape as pair_shape_in, second_kind as second_kind_in, second_map, shape_of as shape_in, shape_under as shape_under_in, sparing_map as sparing_map_in, base_of, upper_of as upper_in, is_sparing_lawful as is_sparing_lawful_in};
 ghost use Rattle.udf_volume_model.specs.Stated.{is_built_shape, is_lawful_shape, number_by, partition_number as number_in_maps};
-ghost use Rattle.udf_volume.specs.Maps.{kind_of, kind_seen, shape_seen, upper_seen};
+ghost use Rattle.udf_volume.specs.Maps.{kind_of, kind_seen, shape_seen, sparing_in, sparing_stated, upper_seen};
 
 use crate::offset::{MAP_COUNT, MAP_TABLE_LENGTH, MAPS};
 use crate::{Descriptor, MetaMap, Shape, SparingMap, Upper};
@@ -53,7 +53,8 @@ fn begins(table: &[u8], kind: u8, bytes: usize) -> bool
 #[tactic(auto, using(crate::proofs::Mapped::tables_are), unfolding(udf_volume_model::specs::Maps::sparing_map))]
 fn sparing_map(map: &Fields<'_>) -> SparingMap
     requires { 64 ≤ length map.now }
-    ensures { map_seen result ≡ sparing_map_in map.now }
+    ensures seen { map_seen result ≡ sparing_map_in map.now }
+    ensures stated { result ≡ sparing_in map.now }
 {
     SparingMap {
         packet: map.u16_at(40),
@@ -267,12 +268,24 @@ pub(crate) fn has_lawful_shape(logical: &Descriptor) -> bool
     }
 }
 
-/// Whether the maps of a logical volume descriptor make one physical partition.
+/// What the first map of a logical volume descriptor says of sparing.
+#[tactic(auto, using(crate::proofs::Mapped::sparing_found, crate::proofs::Mapped::no_sparing), unfolding(crate::specs::Maps::sparing_stated, udf_volume_model::specs::Maps::first_map))]
+pub(crate) fn first_sparing(logical: &Descriptor) -> Option<SparingMap>
+    ensures { result ≡ sparing_stated logical.now.body }
+{
+    let table = map_table(logical);
+    match kind_at(table) {
+        Some(MapKind::Sparable(_)) => Some(sparing_map(&Fields::over(table))),
+        _ => None,
+    }
+}
+
+/// Whether the maps of a logical volume descriptor make one partition, physical or sparable, with nothing over it.
 pub(crate) fn is_built(logical: &Descriptor) -> bool
     ensures { result ≡ is_built_shape (shape_in logical.now.body) }
 {
     match shape_of(logical) {
         None => false,
-        Some(shape) => matches!(shape.upper, Upper::Absent) && shape.sparing.is_none(),
+        Some(shape) => matches!(shape.upper, Upper::Absent),
     }
 }

@@ -1,4 +1,4 @@
-//! A volume from an image: the first refusal that applies, or what the prevailing descriptors state.
+//! A volume from an image: the first refusal of its description, or what the prevailing descriptors state.
 ghost use Rattle.std.specs.Prelude.{◌≡◌, ◌+◌, ◌/◌, ◌≤◌, ◌<◌, ◌^◌, length as length_of, IfOk, IfErr, IfSome, Some, None, slice_get};
 ghost use Rattle.udf_outside.specs.Files.{IsAttached};
 ghost use Rattle.udf_outside.specs.Stops.{bytes_of};
@@ -12,14 +12,14 @@ ghost use Rattle.udf_volume_model.specs.Stated.{partition_number as number_of_ma
 ghost use Rattle.udf_volume.specs.Laid.{IsLaidOut};
 ghost use Rattle.udf_volume.specs.Leads.{IsLeading};
 ghost use Rattle.udf_volume.specs.Led.{IsLed, led_seen};
-ghost use Rattle.udf_volume.specs.Refusals.{RefusesVolume};
-ghost use Rattle.udf_volume.specs.Opened.{volume_by, stated_in, sector_in, bitmap_in, is_guarded as is_guarded_by, accepted, opening, Answers, IsBounded};
+ghost use Rattle.udf_volume.specs.Refusals.{RefusesDescription};
+ghost use Rattle.udf_volume.specs.Opened.{volume_by, stated_in, sector_in, bitmap_in, is_guarded as is_guarded_by, accepted, described, Answers, IsBounded};
 ghost use Rattle.udf_volume.specs.Over.{HasBlocks};
 
 use crate::anchor::places_of;
 use crate::kept::{AnchorSearch, Led, search};
 use crate::layout::is_lawful;
-use crate::maps::{has_lawful_shape, is_built};
+use crate::maps::{first_sparing, has_lawful_shape, is_built};
 use crate::offset::{
     ACCESS, FILE_SET, INTEGRITY, LENGTH, PROTECTION, REVISION, SPACE_BITMAP, START,
 };
@@ -105,7 +105,7 @@ fn volume_of(led: &Led, size: u32, blocks: u32, logical: &Descriptor, at: usize)
         info: information_sector(led),
         shape: Shape {
             base: 0,
-            sparing: None,
+            sparing: first_sparing(logical),
             upper: Upper::Absent,
         },
         start: partition_fields.u32_at(START),
@@ -139,7 +139,7 @@ fn stated(led: &Led, size: u32, blocks: u32) -> Option<Volume>
 }
 
 // The volume of a kept sequence, or the first refusal of it.
-#[tactic(auto, using(crate::proofs::Opening::unlike, crate::proofs::Opening::unstated, crate::proofs::Opening::unlaid, crate::proofs::Opening::accepted_by))]
+#[tactic(auto, using(crate::proofs::Opening::unlike, crate::proofs::Opening::asks_described, crate::proofs::Opening::unstated, crate::proofs::Opening::unlaid, crate::proofs::Opening::accepted_by))]
 fn accept<B: Bench>(
     alloc: Global,
     bench: &mut B,
@@ -153,7 +153,7 @@ fn accept<B: Bench>(
     requires led { IsLed size blocks led.now }
     ensures answers { B.tells → Answers
         (accepted size blocks (disk_of size (B.held bench.old)) (led_seen led.now)) result }
-    ensures refusal { IfErr result RefusesVolume }
+    ensures refusal { IfErr result RefusesDescription }
     ensures bounds { IfOk result (IsBounded size blocks) }
     ensures areas { IfOk result IsLaidOut }
     ensures reads { OnlyReads B.files B.held B.faults bench.old bench.new LayerStop.Fault result }
@@ -171,7 +171,8 @@ fn accept<B: Bench>(
     }
 }
 
-/// The volume of an image. `size` is the block size, at least 512, and `length` the image's length in bytes.
+/// The volume of an image, or the first refusal up to that of the layout. `size` is the block size, at least 512, and `length` the
+/// image's length in bytes.
 #[tactic(auto, using(crate::proofs::Opening::whole_blocks))]
 pub fn open_volume<B: Bench>(
     alloc: Global,
@@ -182,8 +183,8 @@ pub fn open_volume<B: Bench>(
     requires attached { IsAttached Image (B.files bench.old) }
     requires large { 512 ≤ size }
     requires sized { length ≡ (B.files bench.old).image.size }
-    ensures answers { B.tells → Answers (opening size (bytes_of Image (B.held bench.old))) result }
-    ensures refusal { IfErr result RefusesVolume }
+    ensures answers { B.tells → Answers (described size (bytes_of Image (B.held bench.old))) result }
+    ensures refusal { IfErr result RefusesDescription }
     ensures bounds { IfOk result (IsBounded size (length / size)) }
     ensures areas { IfOk result IsLaidOut }
     ensures reads { OnlyReads B.files B.held B.faults bench.old bench.new LayerStop.Fault result }

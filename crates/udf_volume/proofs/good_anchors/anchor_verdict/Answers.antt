@@ -24,7 +24,7 @@ returns-clause-verdict g c = λ tells.
     let image : List ℕ = bytes_of Image (g.B.Bench.held c.args.bench.now) in
     let disk : ℕ → List ℕ = block_of v.size image in
     let those : List ℕ → List ℕ = λ l. filter (λ place. not (is_good (anchor_stated v) place (disk place))) l in
-    let places : c.in_ok-eligible.eligible.items ≡ eligible_stated v = c.in_ok-eligible.ensures.places in
+    let places : c.in_ok-eligible.eligible.items ≡ eligible_stated v c.args.layout.now = c.in_ok-eligible.ensures.places in
     let read : c.in_ok-bad.bad.items ≡ those c.deref.result.now = c.in_ok-bad.ensures.bad tells in
     record {
       bad = read ∙ ap those (c.deref.ensures.value ∙ places);

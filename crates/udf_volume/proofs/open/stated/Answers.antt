@@ -10,6 +10,7 @@ use Rattle.udf_volume.proofs.Extents.{descriptors_in, bounded}
 use Rattle.udf_volume.proofs.Leads.{leads_to}
 use Rattle.udf_volume.proofs.Profiled.{logical_some}
 use Rattle.udf_volume.proofs.Prevail.{found, not_found}
+use Rattle.udf_volume.proofs.Sparings.{spared_by}
 use Rattle.udf_volume.proofs.Opening.{no_shape, not_built, not_described, described}
 use Rattle.udf_volume.proofs.open.stated.Goals as goal
 
@@ -81,4 +82,5 @@ returns-clause-bounds c =
     let small : c.args.blocks < 2 ^ 32 = omega arith in
     subst P
     (sym (c.volume_of.ensures (get_or list c.in-Some.at d) (slice_get-get_or list c.in-Some.at d (subst Q c.in-Some.is c.requires.leading.partition_inside))))
-    (bounded c.args.size c.args.blocks c.args.led.now _ _ small c.requires)
+    (bounded c.args.size c.args.blocks c.args.led.now _ _ small c.requires
+    (spared_by c.index-logical.result.now.body c.if-not-has_lawful_shape.ensures c.if-not-is_built.ensures))

@@ -1,4 +1,4 @@
-use Rattle.std.proofs.Common.{◌≡◌, ◌∙◌, ap, [], None, slice_index}
+use Rattle.std.proofs.Common.{◌≡◌, ◌∙◌, ap, [], slice_index}
 use Rattle.std.proofs.lemmas.Option.{get_or_from_slice_get}
 use Rattle.udf_model.specs.Bytes.{number_at}
 use Rattle.udf_volume_model.specs.Sequence.{Descriptor}
@@ -31,7 +31,7 @@ returns c = λ described here.
       lvd = sector_is led 6 [] _ _ leading.logical c.sector_at-2.ensures i;
       pd = sector_is led 5 _ _ _ c.requires.partition c.sector_at-3.ensures i;
       info = c.information_sector.ensures i;
-      shape = record { base = 0; sparing = None; upper = Absent };
+      shape = record { base = 0; sparing = c.first_sparing.ensures i; upper = Absent };
       start = (c.u32_at.ensures ∙ ap (λ b. number_at 4 b 172) partition) i;
       length = (c.u32_at-2.ensures ∙ ap (λ b. number_at 4 b 176) partition) i;
       bitmap = (c.bitmap.ensures ∙ ap bitmap_in partition) i;

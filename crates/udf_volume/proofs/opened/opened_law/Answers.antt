@@ -1,5 +1,5 @@
 use Rattle.udf_volume.proofs.Protected.{opened_is, writable_is}
-use Rattle.udf_volume.proofs.writable.opened_law.Goals as goal
+use Rattle.udf_volume.proofs.opened.opened_law.Goals as goal
 
 pub returns-clause-opened : goal.returns-clause-opened
 returns-clause-opened c = opened_is
