@@ -4,6 +4,7 @@ use Rattle.udf_model.specs.Image.{block_of, blocks_in}
 use Rattle.udf_volume_model.specs.Kept.{KeptSequence, kept_sequence_of}
 use Rattle.udf_volume_model.specs.Rules as model
 use Rattle.udf_volume_model.specs.AllRules.{findings}
+use Rattle.udf_layer.specs.declared.agreement.Deviation.{Deviation}
 use Rattle.udf_rules.specs.declared.finding.Place.{Place}
 use Rattle.udf_rules.specs.declared.finding.Place.TheVariants.{Sector, At}
 use Rattle.udf_rules.specs.declared.finding.Finding.{Finding}
@@ -33,3 +34,11 @@ anchor_report holds eligible bad =
 unfoldable pub sequence_report : Bool → ℕ → ℕ → ℕ → List Finding
 sequence_report holds start read kept =
     if holds then [] else record { rule = 3; place = Sector start; first = read; second = kept } ∷ []
+
+-- a sparing table at a sector, with the number that it has there
+abbrev pub deviation_with : (ℕ → ℕ) → ℕ → Deviation
+deviation_with number at = record { at = at; number = number at }
+
+-- what is reported of sparing tables that do not agree with the prevailing one, by its sequence number
+unfoldable pub table_report : List Deviation → ℕ → List Finding
+table_report tables prevailing = map (λ table. record { rule = 4; place = Sector table.at; first = table.number; second = prevailing }) tables

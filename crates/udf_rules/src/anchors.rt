@@ -1,12 +1,12 @@
 //! The rule on anchors, number 2 (ECMA-167 3/8.4.2.1).
 //!
 //! Binds: every volume. At least two of the eligible places hold a good anchor, or all do. A place is eligible where it is at
-//! least 256 and lies in none of the volume's areas; it is good where its block is an anchor, whole there, that names the
+//! least 256 and lies in none of the volume's areas and used packets; it is good where its block is an anchor, whole there, that names the
 //! extents of the kept one.
 //! Reads: the block of each eligible place.
 //! Finds: each eligible place that is not good, with the numbers of good and of eligible places.
 //! Mends: each of them becomes the kept anchor's block, relocated (`udf_plan`).
-//! Relies on: the kept anchor and the areas, which lie apart from each other.
+//! Relies on: the kept anchor and what the volume takes, whose parts lie apart from each other.
 ghost use Rattle.std.specs.Prelude.{◌≡◌, ◌≤◌, ◌++◌, length, OnOk};
 ghost use Rattle.udf_outside.specs.Stops.{bytes_of};
 ghost use Rattle.udf_outside.specs.Reads.{OnlyReads};
@@ -18,7 +18,7 @@ ghost use Rattle.udf_rules.specs.Reported.{anchors_reported};
 use crate::{Finding, Findings, Place};
 use std::alloc::{AllocError, Global};
 use udf_outside::Bench;
-use udf_volume::{AnchorVerdict, Volume, WorkStop, anchor_verdict};
+use udf_volume::{AnchorVerdict, Layout, Volume, WorkStop, anchor_verdict};
 
 /// The number of the rule.
 const RULE: u8 = 2;
@@ -51,16 +51,17 @@ pub(crate) fn check_anchors<B: Bench>(
     alloc: Global,
     bench: &mut B,
     volume: &Volume,
+    layout: &Layout,
     block: &mut [u8],
     findings: &mut Findings,
 ) -> Result<(), WorkStop>
     requires over { IsOver volume.now (B.files bench.old) }
     requires room { length block.old ≡ volume.now.size }
     ensures found { B.tells → OnOk result (findings.new ≡ findings.old
-        ++ anchors_reported volume.now (bytes_of Image (B.held bench.old))) }
+        ++ anchors_reported volume.now layout.now (bytes_of Image (B.held bench.old))) }
     ensures reads { OnlyReads B.files B.held B.faults bench.old bench.new WorkStop.Fault result }
 {
-    let verdict = anchor_verdict(alloc, bench, volume, block)?;
+    let verdict = anchor_verdict(alloc, bench, volume, layout, block)?;
     report_anchors(findings, &verdict)?;
     Ok(())
 }

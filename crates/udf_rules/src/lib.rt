@@ -9,6 +9,7 @@ mod check;
 mod finding;
 mod report;
 mod sequences;
+mod tables;
 
 pub use check::check_volume;
 pub use finding::{Finding, Findings, Place};
