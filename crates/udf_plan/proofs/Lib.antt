@@ -1,7 +1,11 @@
-pub mod Changing
+pub mod Looking
+pub mod Keeping
 pub mod Terminators
 pub mod Rooms
-pub mod Sequences
-pub mod Filling
-pub mod Wanted
+pub mod Free
+pub mod Walking
+pub mod Stating
 pub mod Exact
+pub mod TableCopies
+pub mod TablesStated
+pub mod FreeTables

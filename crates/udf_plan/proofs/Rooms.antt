@@ -1,6 +1,5 @@
 -- The extents of a volume have room for the kept descriptors and the block that ends them.
-use Rattle.std.proofs.Common.{◌≡◌, ℕ, ◌+◌, ◌*◌, ◌<◌, ◌≤◌, arith}
-use Rattle.std.proofs.Math.Nat.{mul-le-mul_right}
+use Rattle.std.proofs.Common.{◌≡◌, ℕ, ◌+◌, ◌<◌, ◌≤◌, arith}
 use Rattle.udf_volume_model.specs.Anchor.{blocks_for}
 use Rattle.udf_volume.proofs.Extents.{ends_in}
 use Rattle.udf_volume.specs.Seen.{extent_seen}
@@ -21,14 +20,6 @@ module _ (volume : Volume) (b : IsBounded volume.size volume.blocks volume) wher
 
   pub end_inside : (w : Which) → (span_by w volume).start + volume.count < volume.blocks
   end_inside w = omega (arith, room w, fits w)
-
-  pub run_inside : (w : Which) (start count : ℕ) → start ≡ (span_by w volume).start → count ≡ blocks_for volume.size (span_by w volume).length
-      → start + count ≤ volume.blocks
-  run_inside w start count s c = omega (arith, room w)
-
-  pub bytes_inside : (w : Which) (start count whole : ℕ) → start ≡ (span_by w volume).start → count ≡ blocks_for volume.size (span_by w volume).length
-      → volume.blocks * volume.size ≤ whole → (start + count) * volume.size ≤ whole
-  bytes_inside w start count whole s c h = omega (arith, mul-le-mul_right volume.size (run_inside w start count s c))
 
   pub last_inside : (w : Which) (start : ℕ) → start ≡ (span_by w volume).start → start + volume.count < volume.blocks
   last_inside w start s = omega (arith, end_inside w)

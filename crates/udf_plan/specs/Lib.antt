@@ -1,2 +1,4 @@
-pub mod Changes
+pub mod Kept
+pub mod Wanted
+pub mod Writable
 pub mod Stated

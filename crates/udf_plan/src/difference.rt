@@ -2,7 +2,7 @@
 ghost use Rattle.std.specs.Prelude.{◌≡◌, ◌<◌, ◌++◌, ◌∷◌, [], length, OnOk, true};
 ghost use Rattle.std.specs.Str.{bytes_eq};
 ghost use Rattle.udf_blocks.specs.Planned.{are_below};
-ghost use Rattle.udf_plan.specs.Changes.{changes};
+ghost use Rattle.udf_plan.specs.Wanted.{differing};
 
 use crate::{NoMemory, Plan};
 
@@ -13,7 +13,6 @@ fn is_same(now: &[u8], wanted: &[u8]) -> bool
 }
 
 /// Adds a wanted block to a plan, where the image's block of that sector is another.
-#[tactic(auto, using(crate::proofs::Changing::nothing_added, crate::proofs::Changing::one_added))]
 pub(crate) fn add_difference(
     plan: &mut Plan,
     sector: u32,
@@ -24,7 +23,7 @@ pub(crate) fn add_difference(
     requires above { are_below sector plan.old.blocks ≡ true }
     requires below { sector < 4294967295 }
     ensures { OnOk result (plan.new ≡ record plan.old {
-      blocks = plan.old.blocks ++ changes (λ _. now.now) (λ _. wanted.now) (sector ∷ []);
+      blocks = plan.old.blocks ++ differing (λ _. now.now) ((sector, wanted.now) ∷ []);
     }) }
 {
     if is_same(now, wanted) {

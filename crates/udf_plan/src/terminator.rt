@@ -13,18 +13,19 @@ const VERSION: usize = 2;
 
 const SERIAL: usize = 6;
 
-/// Writes a terminating descriptor for a sector over a whole block, with version and serial number of another tag.
+/// Writes a terminating descriptor for a sector over a whole block, and keeps the version and the serial number of its tag.
 #[tactic(auto, using(crate::proofs::Terminators::is_written))]
-pub(crate) fn write_terminator(block: &mut [u8], like: &[u8], sector: u32)
+pub(crate) fn write_terminator(block: &mut [u8], sector: u32)
     requires room { 512 ≤ length block.old }
-    requires tag { 16 ≤ length like.now }
-    ensures { block.new ≡ terminator (length block.old) sector like.now }
+    ensures { block.new ≡ terminator (length block.old) sector block.old }
 {
+    let version = (block[VERSION], block[VERSION + 1]);
+    let serial = (block[SERIAL], block[SERIAL + 1]);
     block.fill(0);
     block[0] = TERMINATING as u8;
-    block[VERSION] = like[VERSION];
-    block[VERSION + 1] = like[VERSION + 1];
-    block[SERIAL] = like[SERIAL];
-    block[SERIAL + 1] = like[SERIAL + 1];
+    block[VERSION] = version.0;
+    block[VERSION + 1] = version.1;
+    block[SERIAL] = serial.0;
+    block[SERIAL + 1] = serial.1;
     retag(block, COVERED, sector);
 }

@@ -1,5 +1,5 @@
 use Rattle.std.proofs.Common.{sym}
-use Rattle.udf_plan.proofs.Changing.{nothing_added, one_added}
+use Rattle.udf_plan.proofs.Walking.{nothing_added, one_added}
 use Rattle.udf_plan.proofs.difference.add_difference.Goals as goal
 
 pub returns-then-is_same : goal.returns-then-is_same

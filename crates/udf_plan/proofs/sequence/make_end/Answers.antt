@@ -21,7 +21,7 @@ returns-clause-made g c = λ tells.
     let size = c.args.volume.now.size in
     let disk : ℕ → List ℕ = block_of size (bytes_of Image (g.B.Bench.held c.args.bench.now)) in
     let source : c.read_block.new.into ≡ disk c.args.source = c.in_ok-read_block.ensures.block tells in
-    let long : length c.read_block.new.into ≡ size = search rules in
+    let long : length c.read_block-2.new.into ≡ size = search rules in
     let logical : c.read_block-2.new.into ≡ disk c.args.volume.now.lvd =
     c.in_ok-read_block-2.ensures.block tells ∙ ap (λ h. block_of size (bytes_of Image h) c.args.volume.now.lvd) c.in_ok-read_block.ensures.reads.held in
     new_end size c.args.target (disk c.args.source) (disk c.args.volume.now.lvd) c.write_terminator.new.block
