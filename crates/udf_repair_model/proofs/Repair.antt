@@ -45,7 +45,7 @@ module _ (size : ℕ) (image : List ℕ) where
     unfolding is_accepted
     still_accepted = and_from _ _ law.opened (ap not protected_stays ∙ (parts a).1)
 
-  by_acceptance : (P : List ℕ → Type 0) → (is_accepted size image ≡ true → P (mended size image)) → (is_accepted size image ≡ false → P image) → P (mend size image)
+  pub by_acceptance : (P : List ℕ → Type 0) → (is_accepted size image ≡ true → P (mended size image)) → (is_accepted size image ≡ false → P image) → P (mend size image)
   unfolding mend
   by_acceptance P accepts refuses = elim (is_accepted size image) as (λ b. (b ≡ true → P (mended size image)) → (b ≡ false → P image) → P (cond b (mended size image) image))
       [ true ↦ λ f g. f refl | false ↦ λ f g. g refl ] accepts refuses

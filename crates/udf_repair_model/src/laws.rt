@@ -4,7 +4,10 @@ ghost use Rattle.udf_volume_model.specs.Size.{size_of};
 ghost use Rattle.udf_volume_model.specs.Opened.{difference};
 ghost use Rattle.udf_volume_model.specs.Plans.{IsRewrite};
 ghost use Rattle.udf_volume.specs.Writable.{writable_opening};
+ghost use Rattle.udf_file_model.specs.Place.{physical_place};
+ghost use Rattle.udf_volume_model.specs.Areas.{Area, no_table};
 ghost use Rattle.udf_repair_model.specs.Accepted.{is_accepted, is_unbroken, mended, mend};
+ghost use Rattle.udf_repair_model.specs.Places.{place_by, place_of};
 
 /// The mended image of an accepted one is accepted and breaks no rule, and every image is repaired to one that a second repair
 /// leaves. It differs at most in whole blocks: not at all where no rule is broken, and somewhere where an accepted image
@@ -19,6 +22,13 @@ pub fn repair_law()
         → 1 ≤ length (difference size image (mend size image)) }
     ensures alike { (size : ℕ) (image : List ℕ) → is_unbroken size image ≡ true → difference size image (mend size image) ≡ [] }
     ensures size { (given : Option ℕ) (size : ℕ) (image : List ℕ) → size_of given image ≡ Some size → size_of given (mend size image) ≡ Some size }
+{}
+
+/// A repair leaves each block of the partition at its sector: of a physical volume in the partition, of a sparable one also in the
+/// packets to which its sparing table maps.
+pub fn places_law()
+    ensures stay { (size : ℕ) (image : List ℕ) → 512 ≤ size → place_of size (mend size image) ≡ place_of size image }
+    ensures physical { (partition : Area) (n : ℕ) → place_by partition no_table n ≡ physical_place partition.start partition.count n }
 {}
 
 /// An image is accepted for a repair exactly where a volume that may be written is opened.
