@@ -7,7 +7,7 @@ use Rattle.udf_repair_model.specs.Sized.{accepted_by, is_accepted_as, unbroken_b
 use Rattle.udf_layer.specs.declared.missing.Missing.{Missing}
 use Rattle.udf_layer.specs.declared.missing.Missing.TheVariants.{Anchor}
 use Rattle.udf_volume.specs.declared.volume.Volume.{Volume}
-use Rattle.udf_volume.specs.Opened.{opening}
+use Rattle.udf_volume.specs.Taken.{opening}
 use Rattle.udf_volume.specs.Writable.{writable_opening}
 use Rattle.udf_volume.proofs.Described.{opened_ok}
 use Rattle.udf_redo.specs.declared.stop.RedoStop.{RedoStop}

@@ -21,7 +21,9 @@ use Rattle.udf_volume_laws.proofs.Findings as laws
 use Rattle.udf_layer.specs.declared.missing.Missing.{Missing}
 use Rattle.udf_layer.specs.declared.missing.Missing.TheVariants.{WriteProtected}
 use Rattle.udf_volume.specs.declared.volume.Volume.{Volume}
-use Rattle.udf_volume.specs.Opened.{opening}
+use Rattle.udf_volume.specs.Taken.{IsOpenedOf, Opens, opening}
+use Rattle.udf_volume.specs.declared.opened.Opened.{Opened}
+use Rattle.udf_volume.proofs.Openings.{of_image}
 use Rattle.udf_volume.specs.Writable.{writable_opening, is_protected, by_protection}
 use Rattle.udf_volume.proofs.Described.{opened_ok}
 use Rattle.udf_repair_model.proofs.Repair.{accepted_is}
@@ -49,8 +51,9 @@ opened_ok_as size image volume = by_opened (opening size image) where
   by_opened (Ok other) e = ap (λ (v : Volume). Ok v) (by_protected other volume (is_protected other) e)
   by_opened (Err missing) e = e
 
-pub opened_as : (size : ℕ) (image : List ℕ) (volume : Volume) → writable_opening size image ≡ Ok volume → volume.size ≡ size → opening volume.size image ≡ Ok volume
-opened_as size image volume e is = ap (λ (n : ℕ). opening n image) is ∙ opened_ok_as size image volume e
+pub opened_of : (size : ℕ) (image : List ℕ) (opened : Opened) → Opens (writable_opening size image) (block_of size image) (Ok opened)
+    → opened.volume.size ≡ size → IsOpenedOf image opened
+opened_of size image opened (e, layout) is = of_image size image opened (opened_ok_as size image opened.volume e, layout) is
 
 pub accepted_ok : (size : ℕ) (image : List ℕ) (volume : Volume) → writable_opening size image ≡ Ok volume → is_accepted size image ≡ true
 accepted_ok size image volume e = accepted_is size image ∙ ap is_ok e

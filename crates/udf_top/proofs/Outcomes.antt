@@ -5,7 +5,7 @@ use Rattle.std.proofs.lemmas.Nat.{div-add-mod'}
 use Rattle.udf_layer.specs.declared.missing.Missing.{Missing}
 use Rattle.udf_volume.specs.declared.volume.Volume.{Volume}
 use Rattle.udf_volume_model.specs.Size.{size_of}
-use Rattle.udf_volume.specs.Opened.{opening}
+use Rattle.udf_volume.specs.Taken.{opening}
 use Rattle.udf_layer.specs.declared.missing.LayerStop.{LayerStop}
 use Rattle.udf_layer.specs.declared.missing.LayerStop.TheVariants as stops
 use Rattle.udf_rules.specs.declared.finding.Finding.{Finding}
@@ -13,11 +13,6 @@ use Rattle.udf_top.specs.declared.outcome.Outcome.TheVariants as outcome
 use Rattle.udf_rules.specs.Findings.{findings_in}
 use Rattle.udf_top.specs.Texts.{replayed_text}
 use Rattle.udf_top.specs.Udffsck.{by_findings, by_opened, check_at, check_sized, check_of, Examines, ExaminesAt, HoldsFront}
-
--- the blocks of a volume lie in the image
-pub fits : (volume : Volume) (size length : ℕ) → 512 ≤ size → volume.size ≡ size → volume.blocks ≡ length / size → volume.blocks * volume.size ≤ length
-fits volume size length large same blocks =
-    let e : length / size * size + length % size ≡ length = div-add-mod' length size in rw (same, blocks) (omega arith)
 
 refused : (size : ℕ) (image : List ℕ) (missing : Missing) → opening size image ≡ Err missing → outcome.Refused missing ≡ check_at size image
 unfolding check_at

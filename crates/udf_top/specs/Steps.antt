@@ -6,6 +6,8 @@ use Rattle.udf_volume_model.specs.Opened.{plan_of}
 use Rattle.udf_repair_model.specs.Accepted.{mend, is_unbroken}
 use Rattle.udf_layer.specs.declared.missing.LayerStop.{LayerStop}
 use Rattle.udf_layer.specs.declared.missing.LayerStop.TheVariants as stops
+use Rattle.udf_model.specs.Image.{block_of}
+use Rattle.udf_volume.specs.Taken.{Opens}
 use Rattle.udf_volume.specs.Writable.{writable_opening}
 use Rattle.udf_redo.specs.Log.{head_in, sealed_in}
 use Rattle.udf_redo.specs.Settled.{settled, CanGoOn, IsFree, SameElsewhere}
@@ -41,7 +43,7 @@ pub record IsMended (after : List ℕ) (end : Held) : Type 0 where
 
 -- what an inspection of an image answers, unless a fault or want of memory came
 abbrev pub Inspects : ℕ → List ℕ → Result Inspected LayerStop → Type 0
-Inspects size image (Ok found) = (writable_opening size image ≡ Ok found.volume) × (found.findings ≡ findings_in size image)
+Inspects size image (Ok found) = Opens (writable_opening size image) (block_of size image) (Ok found.opened) × (found.findings ≡ findings_in size image)
 Inspects size image (Err (stops.Missing missing)) = writable_opening size image ≡ Err missing
 Inspects size image (Err stops.Fault) = Unit {0}
 Inspects size image (Err stops.Memory) = Unit {0}

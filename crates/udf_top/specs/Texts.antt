@@ -17,6 +17,9 @@ item_name item.VolumePointer = codes "VolumePointer"
 item_name item.PartitionMaps = codes "PartitionMaps"
 item_name item.Unbuilt = codes "Unbuilt"
 item_name item.SpaceTables = codes "SpaceTables"
+item_name item.Strategy = codes "Strategy"
+item_name item.ExtendedDescriptors = codes "ExtendedDescriptors"
+item_name item.AttributeFile = codes "AttributeFile"
 
 abbrev pub name_of : Missing → List ℕ
 name_of missing.TooLarge = codes "TooLarge"
@@ -24,6 +27,7 @@ name_of missing.Anchor = codes "Anchor"
 name_of missing.Sequence = codes "Sequence"
 name_of missing.Layout = codes "Layout"
 name_of missing.SparingTable = codes "SparingTable"
+name_of missing.RootDirectory = codes "RootDirectory"
 name_of missing.WriteProtected = codes "WriteProtected"
 name_of (missing.Profile item) = codes "Profile " ++ item_name item
 

@@ -8,7 +8,7 @@ use Rattle.udf_layer.specs.declared.missing.Missing.TheVariants.{Anchor}
 use Rattle.udf_layer.specs.declared.missing.LayerStop.{LayerStop}
 use Rattle.udf_layer.specs.declared.missing.LayerStop.TheVariants as stops
 use Rattle.udf_volume.specs.declared.volume.Volume.{Volume}
-use Rattle.udf_volume.specs.Opened.{opening}
+use Rattle.udf_volume.specs.Taken.{opening}
 use Rattle.udf_rules.specs.declared.finding.Finding.{Finding}
 use Rattle.udf_top.specs.declared.outcome.Outcome.{Outcome}
 use Rattle.udf_top.specs.declared.outcome.Outcome.TheVariants as outcome

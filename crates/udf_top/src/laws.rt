@@ -5,7 +5,7 @@ ghost use Rattle.udf_outside.specs.Stops.{Held, Pair, bytes_of, pair_of};
 ghost use Rattle.udf_volume_model.specs.Size.{size_of};
 ghost use Rattle.udf_repair_model.specs.Accepted.{is_accepted, is_unbroken};
 ghost use Rattle.udf_repair_model.specs.Sized.{is_accepted_as, is_unbroken_as};
-ghost use Rattle.udf_volume.specs.Opened.{opening};
+ghost use Rattle.udf_volume.specs.Taken.{opening};
 ghost use Rattle.udf_redo.specs.Settled.{settled, IsOpenLog};
 ghost use Rattle.udf_top.specs.Repairing.{replaying, repair_of, target, written_in};
 ghost use Rattle.udf_top.specs.Headline.{IsDone};

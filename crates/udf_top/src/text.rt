@@ -22,6 +22,9 @@ fn item(item: ProfileItem) -> &'static str
         ProfileItem::PartitionMaps => "PartitionMaps",
         ProfileItem::Unbuilt => "Unbuilt",
         ProfileItem::SpaceTables => "SpaceTables",
+        ProfileItem::Strategy => "Strategy",
+        ProfileItem::ExtendedDescriptors => "ExtendedDescriptors",
+        ProfileItem::AttributeFile => "AttributeFile",
     }
 }
 
@@ -35,6 +38,7 @@ fn add_name(text: &mut Vec<u8>, missing: Missing) -> Result<(), AllocError>
         Missing::Sequence => text.extend_from_slice(b"Sequence"),
         Missing::Layout => text.extend_from_slice(b"Layout"),
         Missing::SparingTable => text.extend_from_slice(b"SparingTable"),
+        Missing::RootDirectory => text.extend_from_slice(b"RootDirectory"),
         Missing::WriteProtected => text.extend_from_slice(b"WriteProtected"),
         Missing::Profile(profile) => {
             text.extend_from_slice(b"Profile ")?;

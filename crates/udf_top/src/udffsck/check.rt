@@ -18,10 +18,10 @@ use crate::{Findings, Outcome};
 use std::alloc::Global;
 use udf_outside::{Access, Bench, Role};
 use udf_rules::check_volume;
-use udf_volume::{LayerStop, open_volume};
+use udf_volume::{LayerStop, open_layout};
 
 // What breaks the rules on the volume of an image, at a block size.
-#[tactic(auto, using(crate::proofs::Outcomes::fits))]
+#[tactic(auto, using(udf_volume::proofs::Openings::open_over, udf_volume::proofs::Openings::of_image))]
 fn examine_at<B: Bench>(
     alloc: Global,
     size: u32,
@@ -35,8 +35,8 @@ fn examine_at<B: Bench>(
     ensures refusal { IfErr result RefusesVolume }
     ensures reads { OnlyReads B.files B.held B.faults bench.old bench.new LayerStop.Fault result }
 {
-    let volume = open_volume(alloc, bench, size, length)?;
-    let findings = check_volume(alloc, bench, &volume)?;
+    let opened = open_layout(alloc, bench, size, length)?;
+    let findings = check_volume(alloc, bench, &opened)?;
     Ok(findings)
 }
 

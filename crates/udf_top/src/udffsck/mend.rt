@@ -4,11 +4,12 @@ ghost use Rattle.udf_outside.specs.Files.{IsAttached, IsWritable};
 ghost use Rattle.udf_outside.specs.Stops.{bytes_of, IsSynced, LeavesOnly};
 ghost use Rattle.udf_outside.specs.Causes.{Rose};
 ghost use Rattle.udf_outside.specs.Reads.{OnlyReads};
+ghost use Rattle.udf_outside.specs.Sectors.{disk_of};
 ghost use Rattle.udf_outside.specs.declared.bench.Role.TheVariants.{Image, Side};
 ghost use Rattle.udf_volume_model.specs.Opened.{plan_of};
 ghost use Rattle.udf_volume_model.specs.Plans.{IsRewrite};
-ghost use Rattle.udf_volume.specs.Laid.{IsLaidOut};
 ghost use Rattle.udf_volume.specs.Opened.{IsBounded};
+ghost use Rattle.udf_volume.specs.Taken.{IsLawful, Opens};
 ghost use Rattle.udf_volume.specs.Writable.{writable_opening};
 ghost use Rattle.udf_blocks.specs.PlanFor.{sealed_stated, IsPlanFor};
 ghost use Rattle.udf_model.specs.Size.{is_size};
@@ -31,17 +32,17 @@ use udf_outside::{Bench, Sink};
 use udf_plan::{Plan, plan_volume};
 use udf_redo::{RedoStop, SealedRun, apply, close_gate, open_gate, write_log};
 use udf_rules::check_volume;
-use udf_volume::{LayerStop, Volume, WorkStop, open_writable};
+use udf_volume::{LayerStop, Opened, Volume, WorkStop, open_writable};
 
-/// A volume that a repair may write, and what breaks the rules on it.
-#[derive(Debug, Drop)]
+/// A volume that a repair may write, with its layout, and what breaks the rules on it.
+#[derive(Drop)]
 struct Inspected {
-    volume: Volume,
+    opened: Opened,
     findings: Findings,
 }
 
 // Reads what a repair needs. `length` is the image's in bytes.
-#[tactic(auto, using(crate::proofs::Outcomes::fits, crate::proofs::Mending::opened_as))]
+#[tactic(auto, using(udf_volume::proofs::Openings::open_over, crate::proofs::Mending::opened_of))]
 fn inspect<B: Bench>(
     alloc: Global,
     bench: &mut B,
@@ -52,13 +53,12 @@ fn inspect<B: Bench>(
     requires length { length ≡ (B.files bench.old).image.size }
     requires large { 512 ≤ size }
     ensures answers { B.tells → Inspects size (bytes_of Image (B.held bench.old)) result }
-    ensures bounds { IfOk result (λ found. IsBounded size (length / size) found.volume) }
-    ensures areas { IfOk result (λ found. IsLaidOut found.volume) }
+    ensures lawful { IfOk result (λ found. IsLawful size (length / size) found.opened) }
     ensures reads { OnlyReads B.files B.held B.faults bench.old bench.new LayerStop.Fault result }
 {
-    let volume = open_writable(alloc, bench, size, length)?;
-    let findings = check_volume(alloc, bench, &volume)?;
-    Ok(Inspected { volume, findings })
+    let opened = open_writable(alloc, bench, size, length)?;
+    let findings = check_volume(alloc, bench, &opened)?;
+    Ok(Inspected { opened, findings })
 }
 
 // The blocks of the kept descriptors, which no mend writes.
@@ -166,17 +166,17 @@ fn mend_broken<B: Bench, O: Sink>(
 ) -> Outcome
     requires image { IsWritable Image (B.files bench.old) }
     requires side { IsWritable Side (B.files bench.old) }
-    requires size { is_size found.now.volume.size ≡ true }
-    requires bounded { IsBounded found.now.volume.size ((B.files bench.old).image.size / found.now.volume.size) found.now.volume }
-    requires laid { IsLaidOut found.now.volume }
-    requires opened { B.tells → writable_opening found.now.volume.size (bytes_of Image (B.held bench.old)) ≡ Ok found.now.volume }
-    requires findings { B.tells → found.now.findings ≡ findings_in found.now.volume.size (bytes_of Image (B.held bench.old)) }
+    requires size { is_size found.now.opened.volume.size ≡ true }
+    requires lawful { IsLawful found.now.opened.volume.size ((B.files bench.old).image.size / found.now.opened.volume.size) found.now.opened }
+    requires opened { B.tells → Opens (writable_opening found.now.opened.volume.size (bytes_of Image (B.held bench.old)))
+        (disk_of found.now.opened.volume.size (B.held bench.old)) (Ok found.now.opened) }
+    requires findings { B.tells → found.now.findings ≡ findings_in found.now.opened.volume.size (bytes_of Image (B.held bench.old)) }
     requires broken { 1 ≤ length found.now.findings }
     requires free { B.tells → IsFree (bytes_of Side (B.held bench.old)) }
     requires synced { B.tells → IsSynced (B.held bench.old) }
-    ensures mends { B.tells → Mends found.now.volume.size replayed (B.held bench.old) (B.held bench.new) result }
+    ensures mends { B.tells → Mends found.now.opened.volume.size replayed (B.held bench.old) (B.held bench.new) result }
     ensures said { B.tells → (before : List ℕ) → O.told out.old ≡ Some before
-        → Says (O.told out.new) before (mend_said found.now.volume.size medium.now (bytes_of Image (B.held bench.old))) result }
+        → Says (O.told out.new) before (mend_said found.now.opened.volume.size medium.now (bytes_of Image (B.held bench.old))) result }
     ensures device { result ≡ Outcome.DeviceFault → Rose (B.faults bench.old) (B.faults bench.new) }
     ensures out { result ≡ Outcome.OutFault → Rose (O.faults out.old) (O.faults out.new) }
     ensures usage { (cause : Cause) → result ≡ Outcome.Usage cause → ⊥ }
@@ -185,14 +185,14 @@ fn mend_broken<B: Bench, O: Sink>(
     ensures later { B.faults bench.old ≤ B.faults bench.new }
     ensures later_out { O.faults out.old ≤ O.faults out.new }
 {
-    let plan = match plan_volume(alloc, bench, &found.volume) {
+    let plan = match plan_volume(alloc, bench, &found.opened) {
         Ok(plan) => plan,
         Err(stop) => return by_work(stop),
     };
     if let Err(stop) = say_mend(alloc, medium, &found.findings, plan.len(), out) {
         return stop.outcome();
     }
-    write(alloc, replayed, &plan, &found.volume, bench)
+    write(alloc, replayed, &plan, &found.opened.volume, bench)
 }
 
 // Tells that no rule is broken.

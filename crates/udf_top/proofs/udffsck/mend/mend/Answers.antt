@@ -14,7 +14,7 @@ pub returns-then-is_empty-clause-mends : goal.returns-then-is_empty-clause-mends
 returns-then-is_empty-clause-mends g c tells =
     let answers = c.in-Ok.ensures.answers tells in
     mends_unbroken c.args.size _ _ (c.requires.synced tells) (c.requires.free tells) c.inspect.ensures.reads.held c.args.replayed c.end_unbroken.result
-    c.in-Ok.found.volume answers.0 (sym answers.1 ∙ empty_is _ c.if-is_empty.ensures) c.end_unbroken.ensures.ended
+    c.in-Ok.found.opened.volume answers.0.0 (sym answers.1 ∙ empty_is _ c.if-is_empty.ensures) c.end_unbroken.ensures.ended
 
 pub returns-then-is_empty-clause-said : goal.returns-then-is_empty-clause-said
 returns-then-is_empty-clause-said g c tells before told =
@@ -24,14 +24,14 @@ returns-then-is_empty-clause-said g c tells before told =
     says_same _ before _ _ c.end_unbroken.result
     (clean_text c.args.medium.now (written_in size image)
     ∙ ap (λ (fs : List Finding). mend_text c.args.medium.now fs (written_in size image)) (sym (sym answers.1 ∙ empty_is _ c.if-is_empty.ensures))
-    ∙ sym (said_ok size image c.args.medium.now c.in-Ok.found.volume answers.0))
+    ∙ sym (said_ok size image c.args.medium.now c.in-Ok.found.opened.volume answers.0.0))
     (c.end_unbroken.ensures.said before told)
 
 pub returns-in-Ok-clause-said : goal.returns-in-Ok-clause-said
 returns-in-Ok-clause-said g c tells before told =
     subst (λ (h : Held). Says (g.O.Sink.told c.mend_broken.new.out) before (mend_said c.args.size c.args.medium.now (bytes_of Image h)) c.mend_broken.result) c.inspect.ensures.reads.held
     (subst (λ (n : ℕ). Says (g.O.Sink.told c.mend_broken.new.out) before (mend_said n c.args.medium.now (bytes_of Image (g.B.Bench.held c.inspect.new.bench))) c.mend_broken.result)
-    c.in-Ok.ensures.bounds.sized (c.mend_broken.ensures.said tells before told))
+    c.in-Ok.ensures.lawful.bounded.sized (c.mend_broken.ensures.said tells before told))
 
 pub returns-in-Err-Missing-clause-mends : goal.returns-in-Err-Missing-clause-mends
 returns-in-Err-Missing-clause-mends g c tells =

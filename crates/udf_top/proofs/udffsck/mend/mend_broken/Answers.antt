@@ -22,24 +22,26 @@ returns-in-Err-say_mend-clause-mends g c tells =
 
 pub returns-in-Err-say_mend-clause-said : goal.returns-in-Err-say_mend-clause-said
 returns-in-Err-say_mend-clause-said g c tells before told =
-    let size = c.args.found.now.volume.size in
+    let size = c.args.found.now.opened.volume.size in
     let image = bytes_of Image (g.B.Bench.held c.args.bench.now) in
-    let volume = c.args.found.now.volume in
-    let e = c.requires.opened tells in
-    let plan : c.in-Ok.plan.blocks ≡ plan_of size image (mend size image) = plan_is size image volume c.in-Ok.plan.blocks e (c.in-Ok.ensures.plan tells (opened_ok_as size image volume e)) in
+    let volume = c.args.found.now.opened.volume in
+    let is = c.requires.opened tells in
+    let e = is.0 in
+    let plan : c.in-Ok.plan.blocks ≡ plan_of size image (mend size image) = plan_is size image volume c.in-Ok.plan.blocks e (c.in-Ok.ensures.plan tells (record { volume = opened_ok_as size image volume e; layout = is.1 })) in
     let text = text_is size image c.args.medium.now volume c.args.found.now.findings c.in-Ok.plan.blocks c.len.result e (c.requires.findings tells) plan c.len.ensures.count in
     says_same _ before _ _ c.outcome.result text (says_failed _ before _ c.outcome.result (c.say_mend.ensures.front before told) c.outcome.ensures.failed)
 
 pub returns-clause-mends : goal.returns-clause-mends
 returns-clause-mends g c tells =
-    let size = c.args.found.now.volume.size in
+    let size = c.args.found.now.opened.volume.size in
     let old = g.B.Bench.held c.args.bench.now in
     let new = g.B.Bench.held c.write.new.bench in
     let image = bytes_of Image old in
-    let volume = c.args.found.now.volume in
+    let volume = c.args.found.now.opened.volume in
     let held = c.plan_volume.ensures.reads.held in
-    let e = c.requires.opened tells in
-    let plan : c.in-Ok.plan.blocks ≡ plan_of size image (mend size image) = plan_is size image volume c.in-Ok.plan.blocks e (c.in-Ok.ensures.plan tells (opened_ok_as size image volume e)) in
+    let is = c.requires.opened tells in
+    let e = is.0 in
+    let plan : c.in-Ok.plan.blocks ≡ plan_of size image (mend size image) = plan_is size image volume c.in-Ok.plan.blocks e (c.in-Ok.ensures.plan tells (record { volume = opened_ok_as size image volume e; layout = is.1 })) in
     let high : 512 ≤ size = large size c.requires.size in
     let rewrites : IsRewrite size (bytes_of Image (g.B.Bench.held c.plan_volume.new.bench)) (mend size image) =
     subst (λ (h : Held). IsRewrite size (bytes_of Image h) (mend size image)) (sym held) (mend_rewrites size image high) in
@@ -55,10 +57,11 @@ returns-clause-mends g c tells =
 
 pub returns-clause-said : goal.returns-clause-said
 returns-clause-said g c tells before told =
-    let size = c.args.found.now.volume.size in
+    let size = c.args.found.now.opened.volume.size in
     let image = bytes_of Image (g.B.Bench.held c.args.bench.now) in
-    let volume = c.args.found.now.volume in
-    let e = c.requires.opened tells in
-    let plan : c.in-Ok.plan.blocks ≡ plan_of size image (mend size image) = plan_is size image volume c.in-Ok.plan.blocks e (c.in-Ok.ensures.plan tells (opened_ok_as size image volume e)) in
+    let volume = c.args.found.now.opened.volume in
+    let is = c.requires.opened tells in
+    let e = is.0 in
+    let plan : c.in-Ok.plan.blocks ≡ plan_of size image (mend size image) = plan_is size image volume c.in-Ok.plan.blocks e (c.in-Ok.ensures.plan tells (record { volume = opened_ok_as size image volume e; layout = is.1 })) in
     let text = text_is size image c.args.medium.now volume c.args.found.now.findings c.in-Ok.plan.blocks c.len.result e (c.requires.findings tells) plan c.len.ensures.count in
     says_same _ before _ _ c.write.result text (says_whole _ before _ c.write.result (c.in_default.ensures.whole before told))
