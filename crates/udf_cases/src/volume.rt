@@ -1,13 +1,14 @@
 //! Volumes as words: `fresh` (the fresh volume of 1,024 blocks of 512 bytes), `bare` (the same with a partition of zeros), `files`
-//! (the fresh one with entries), `disc:BLOCKS` (a fresh sparable volume of at least 850 blocks of 512 bytes), `three:SIZE:BLOCKS` (a
-//! volume of any block size, at least 540 blocks, three anchors and a partition of zeros), `short:BLOCKS` (a volume of at least 290
-//! blocks of 512 bytes, with two anchors and a partition of zeros). `zeros:BYTES` is no volume, but an image of so many zeros.
+//! (the fresh one with entries), `disc:BLOCKS` (a fresh sparable volume of at least 850 blocks of 512 bytes), `sparable` (the one of
+//! 850 blocks with a partition of zeros), `three:SIZE:BLOCKS` (a volume of any block size, at least 540 blocks, three anchors and a
+//! partition of zeros), `short:BLOCKS` (a volume of at least 290 blocks of 512 bytes, with two anchors and a partition of zeros).
+//! `zeros:BYTES` is no volume, but an image of so many zeros.
 ghost use Rattle.std.specs.Prelude.{◌<◌, ◌≤◌, ◌^◌};
 
 use crate::words::{part, small};
 use std::alloc::Global;
 use udf_field::Short;
-use udf_sample::{Form, NoMemory, bare_volume, put_entry, volume_a, volume_of};
+use udf_sample::{Form, NoMemory, bare_volume, put_entry, volume_a, volume_of, volume_s};
 
 /// The bytes of a volume's block.
 pub(crate) fn size_of(word: &str) -> u32
@@ -50,6 +51,7 @@ pub(crate) fn volume_named(alloc: Global, word: &str) -> Result<Vec<u8>, NoMemor
         "bare" => bare_volume(alloc, &Form::hard_disk(512, 1024)),
         "files" => volume_with_files(alloc),
         "disc" => volume_of(alloc, &Form::rewritable_disc(512, small(word, 1).max(850))),
+        "sparable" => volume_s(alloc),
         "three" => bare_volume(
             alloc,
             &Form::three_anchors(size_of(word), small(word, 2).max(540)),

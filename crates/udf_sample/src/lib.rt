@@ -15,4 +15,4 @@ pub use damage::{Damage, hurt};
 pub use files::put_entry;
 pub use form::{Form, Layer};
 pub use udf_outside::NoMemory;
-pub use volume::{bare_volume, volume_a, volume_of};
+pub use volume::{bare_volume, volume_a, volume_of, volume_s};

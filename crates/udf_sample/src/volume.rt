@@ -117,3 +117,11 @@ pub fn volume_a(alloc: Global) -> Result<Vec<u8>, NoMemory>
 {
     volume_of(alloc, &Form::hard_disk(512, 1024))
 }
+
+/// The fresh volume of 850 blocks of 512 bytes with UUID 0123456789abcdef, as `mkudffs` makes it for a rewritable CD, but with a
+/// partition of zeros.
+pub fn volume_s(alloc: Global) -> Result<Vec<u8>, NoMemory>
+    ensures { IfOk result (λ image. vec_len image ≡ 435200) }
+{
+    bare_volume(alloc, &Form::rewritable_disc(512, 850))
+}
