@@ -8,3 +8,4 @@ pub mod ReadingView
 pub mod NextView
 pub mod ListView
 pub mod ValuesView
+pub mod Stopped

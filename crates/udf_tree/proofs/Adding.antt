@@ -18,6 +18,8 @@ use Rattle.udf_tree_model.proofs.Stating.{entry_node, is_node, node_is, length_i
 use Rattle.udf_tree.specs.declared.arena.Found.{Found}
 use Rattle.udf_tree.specs.Order.{is_known}
 use Rattle.udf_tree.specs.Seen.{AreRead, HasHolder, spots}
+use Rattle.udf_tree.specs.declared.shape.Shape.{Shape}
+use Rattle.udf_tree.specs.Shape.{IsShape, IsShaped}
 use Rattle.udf_tree.specs.Spot.{spot, addresses, knows}
 use Rattle.udf_tree.specs.Target.{targets_of, entry_targets}
 use Rattle.udf_tree.specs.Visit.{Adds}
@@ -86,9 +88,9 @@ entry_links f v a e h k some =
     ap (λ (m : ℕ). targets_of ((node_with f v a e (list_for v a e)).links m)) (sym (length_is f v a e h k some))
     ∙ ap (λ (n : Node). targets_of (n.links (tree_length (tree_of f v) a))) (sym (node_is f v a e h k))
 
-pub read_push : (f : Frame) (v : Volume) (q r : List Found) (n : Found) → 0 < v.size → is_known n.at q ≡ false → (e : Entry) × (entry_at v n.at ≡ Some e) × (n.targets.items ≡ entry_targets v n.at e)
-    → r ≡ q ++ n ∷ [] → HasHolder f v q → AreRead (tree_of f v) q → AreRead (tree_of f v) r
-read_push f v q r n some k e s h a = subst (AreRead (tree_of f v)) (sym s) (record { each = λ x m. go x (member_append q (n ∷ []) x m) })
+pub read_push : (f : Frame) (v : Volume) (q r : List Found) (n : Found) → 0 < v.size → is_known n.at q ≡ false → (e : Entry) × (entry_at v n.at ≡ Some e) × (n.targets.items ≡ entry_targets v n.at e) × ((s : Shape) × (n.shape ≡ Some s) × IsShape v n.at e s)
+    → r ≡ q ++ n ∷ [] → HasHolder f v q → AreRead f v q → AreRead f v r
+read_push f v q r n some k e s h a = subst (AreRead f v) (sym s) (record { each = λ x m. go x (member_append q (n ∷ []) x m); shapes = λ x m. shaped x (member_append q (n ∷ []) x m) })
   where
     go : (x : Found) → Member x q ⊎ Member x (n ∷ []) → x.targets.items ≡ targets_of (whole_links (tree_of f v) x.at)
     go x (inl m) = a.each x m
@@ -96,3 +98,10 @@ read_push f v q r n some k e s h a = subst (AreRead (tree_of f v)) (sym s) (reco
         let P : Found → Type 0 = λ y. y.targets.items ≡ targets_of (whole_links (tree_of f v) y.at) in
         subst P (sym i) (e.2 ∙ entry_links f v n.at e.0 e.1 (not_holder f v n.at q h k) some)
     go x (inr (inr m)) = absurd m
+
+    shaped : (x : Found) → Member x q ⊎ Member x (n ∷ []) → IsShaped f v x.at x.shape
+    shaped x (inl m) = a.shapes x m
+    shaped x (inr (inl i)) =
+        let P : Found → Type 0 = λ y. IsShaped f v y.at y.shape in
+        subst P (sym i) (subst (IsShaped f v n.at) (sym e.3.1) (not_holder f v n.at q h k, e.0, e.1, e.3.2))
+    shaped x (inr (inr m)) = absurd m

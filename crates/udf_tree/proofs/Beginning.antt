@@ -21,6 +21,7 @@ use Rattle.udf_tree_model.proofs.Finding.{volume_within}
 use Rattle.udf_tree.specs.declared.arena.Found.{Found}
 use Rattle.udf_tree.specs.Begin.{IsHolderAlone}
 use Rattle.udf_tree.specs.Seen.{AreRead, HasHolder, IsAt, spots}
+use Rattle.udf_tree.specs.Shape.{IsShaped}
 use Rattle.udf_tree.specs.Spot.{Spot, spot, addresses, knows, ComeOnce, Has, Rising, IsQueue, IsFoundList}
 use Rattle.udf_tree.specs.Target.{targets_of}
 use Rattle.udf_tree.specs.Visit.{Adds, IsPlaced}
@@ -67,7 +68,7 @@ no_holder : (f : Frame) (v : Volume) (q : List Found) → q ≡ [] → ((a : Add
 no_holder f v q e none = subst (IsHolderAlone f v) (sym e) (record {
   holder = record { known = λ a h. absurd (false≢true (sym (none a) ∙ h)) };
   alone = λ x m. absurd m;
-  read = record { each = λ n m. absurd m };
+  read = record { each = λ n m. absurd m; shapes = λ n m. absurd m };
   placed = record { once = tt; among = λ x m. absurd m; low = λ k d l. absurd (omega (arith, l)) };
 })
 
@@ -88,12 +89,12 @@ without_file_set f v q e p = no_holder f v q e (λ a. go a (is_holder f v a) ref
         absurd (false≢true (sym p ∙ ap (λ (x : Addr). is_some (v.place x)) (sym (same_address a f.file_set c.0)) ∙ d.1))
 
 pub with_holder : (f : Frame) (v : Volume) (n : Found) (target : Addr) (q : List Found) → f.system ≡ Some target → f.file_set ≡ n.at → n.level ≡ 0 → n.targets.items ≡ target ∷ []
-    → is_address n.at ≡ true → is_some (v.place n.at) ≡ true → q ≡ n ∷ [] → IsHolderAlone f v q
+    → n.shape ≡ None → is_address n.at ≡ true → is_some (v.place n.at) ≡ true → q ≡ n ∷ [] → IsHolderAlone f v q
 unfolding is_holder
-with_holder f v n target q s i l ts a p e = subst (IsHolderAlone f v) (sym e) (record {
+with_holder f v n target q s i l ts none a p e = subst (IsHolderAlone f v) (sym e) (record {
   holder = record { known = λ b h. or_left (same_addr b n.at) false (ap (same_addr b) (sym i) ∙ (and_parts (same_addr b f.file_set) (is_address b && is_placed v b) (and_parts (is_some f.system) (is_file_set f v b) h).1).0) };
   alone = alone;
-  read = record { each = each };
+  read = record { each = each; shapes = shapes };
   placed = record { once = (refl, tt); among = among; low = low };
 })
   where
@@ -111,6 +112,10 @@ with_holder f v n target q s i l ts a p e = subst (IsHolderAlone f v) (sym e) (r
         let P : Found → Type 0 = λ y. y.targets.items ≡ targets_of (whole_links (tree_of f v) y.at) in
         subst P (sym k) (ts ∙ sym (holder_links f v n.at target s here))
     each m (inr k) = absurd k
+
+    shapes : (m : Found) → Member m (n ∷ []) → IsShaped f v m.at m.shape
+    shapes m (inl k) = let P : Found → Type 0 = λ y. IsShaped f v y.at y.shape in subst P (sym k) (subst (IsShaped f v n.at) (sym none) here)
+    shapes m (inr k) = absurd k
 
     among : (x : Spot) → Member x (spots (n ∷ [])) → Member x.at (places v)
     among x (inl k) = subst (λ (b : Addr). Member b (places v)) (ap (λ (y : Spot). y.at) (sym k)) (placed_among v n.at a p)
@@ -144,7 +149,7 @@ queue_begins g q each all = record {
 
 -- after the root was added to the holder
 pub search_begins : (tells : Type 0) → tells → (f : Frame) (v : Volume) (root : Addr) (q r : List Found) → f.root ≡ root → IsHolderAlone f v q
-    → Adds (tells × HasHolder f v q) (tree_of f v) (places v) root 0 (spots q) (spots r) → (HasHolder f v q → AreRead (tree_of f v) q → AreRead (tree_of f v) r) → IsAt f v 0 r
+    → Adds (tells × HasHolder f v q) (tree_of f v) (places v) root 0 (spots q) (spots r) → (HasHolder f v q → AreRead f v q → AreRead f v r) → IsAt f v 0 r
 unfolding found_graph setting_of is_start
 search_begins tells told f v root q r e alone h read = record {
   holder = stays;

@@ -69,7 +69,7 @@ leads_there t x ts i a e l k =
 
 pub going_more : (tells : Type 0) → tells → (f : Frame) (v : Volume) (next : ℕ) (x : Spot) (ts : List Addr) (i : ℕ) (a : Addr) (q r : List Found)
     → ts ≡ targets_of (whole_links (tree_of f v) x.at) → i < length ts → a ≡ get_or ts i a
-    → Adds (tells × HasHolder f v q) (tree_of f v) (places v) a (suc x.level) (spots q) (spots r) → (HasHolder f v q → AreRead (tree_of f v) q → AreRead (tree_of f v) r)
+    → Adds (tells × HasHolder f v q) (tree_of f v) (places v) a (suc x.level) (spots q) (spots r) → (HasHolder f v q → AreRead f v q → AreRead f v r)
     → IsWithin f v next x (take i ts) q → IsWithin f v next x (take (i + 1) ts) r
 going_more tells told f v next x ts i a q r all l e h read m =
     let more : take (i + 1) ts ≡ take i ts ++ a ∷ [] = take_more ts i a l ∙ ap (λ (y : Addr). take i ts ++ y ∷ []) (sym e) in

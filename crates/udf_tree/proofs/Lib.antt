@@ -3,6 +3,7 @@ pub mod Told
 pub mod Queueing
 pub mod Visiting
 pub mod Adding
+pub mod Seeing
 pub mod Going
 pub mod Beginning
 pub mod TestParts
@@ -15,3 +16,8 @@ pub mod Differing
 mod Wanting
 mod Wanted
 mod Deciding
+pub mod Standings
+pub mod Rooting
+pub mod Merging
+pub mod Fronting
+pub mod Piecing

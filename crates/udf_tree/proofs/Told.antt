@@ -1,10 +1,10 @@
 -- What the calls that read an entry tell.
-use Rattle.std.proofs.Common.{subst, ◌≡◌, ℕ, ◌<◌, List, [], ◌++◌, Bool, true, false, cond, ◌&&◌, Option, Some, None, Result, Ok, Err, IfOk, refl, sym, ap, ◌∙◌, arith}
+use Rattle.std.proofs.Common.{subst, ◌≡◌, ℕ, ◌<◌, List, [], ◌++◌, length, Bool, true, false, cond, ◌&&◌, Option, Some, None, Result, Ok, Err, IfOk, refl, sym, ap, ◌∙◌, arith}
 use Rattle.std.specs.Prelude.{◌==◌, nat_lt}
 use Rattle.std.proofs.lemmas.Bool.{and_parts, and_from}
 use Rattle.std.proofs.lemmas.Bool.Decides.{nat_tests}
 use Rattle.udf_field.specs.declared.address.Addr.{Addr}
-use Rattle.udf_model.specs.Tag.{id_at, identifier, is_whole, location}
+use Rattle.udf_model.specs.Tag.{id_at, identifier, is_id, is_whole, location}
 use Rattle.udf_file_model.specs.Entry.{Entry, entry_of, entry_by, entry_header, fitting, header_by, is_directory}
 use Rattle.udf_file_model.specs.Pieces.{runs_of}
 use Rattle.udf_file_model.specs.Listing.{Volume, Listing, listing, listing_at, listing_by, list_for, good_length}
@@ -12,8 +12,15 @@ use Rattle.udf_file_model.specs.Content.{content, content_by}
 use Rattle.udf_tree_model.specs.Frame.{stream_of, links_of, content_to, entry_at, entry_by as entry_placed, is_address}
 use Rattle.udf_field.specs.declared.address.Long.{Long}
 use Rattle.udf_tree_model.specs.Link.{fid_links, pointer_links}
+use Rattle.udf_tree_model.specs.Refused.{is_indirect, is_indirect_by}
+use Rattle.udf_tree.specs.declared.reading.Sought.{Sought}
+use Rattle.udf_tree.specs.declared.reading.Sought.TheVariants as sought
+use Rattle.udf_tree.specs.declared.shape.Shape.{Shape}
+use Rattle.udf_tree.specs.Merged.{merged}
 use Rattle.udf_tree.specs.Read.{Reads}
+use Rattle.udf_tree.specs.Shape.{IsShape, pieces_seen}
 use Rattle.udf_tree.specs.Target.{entry_targets, linking, targets_of}
+use Rattle.udf_tree.proofs.Merging.{list_merged}
 
 pub ok_more : {T E : Type 0} (r : Result T E) (P Q : T → Type 0) → ((x : T) → P x → Q x) → IfOk r P → IfOk r Q
 ok_more (Ok x) P Q h k = h x k
@@ -77,5 +84,37 @@ targets_are v a e stream bytes s b =
     ap (λ (o : Option Long). targets_of (pointer_links (stream_of o) ++ fid_links v.size bytes)) s
     ∙ ap (λ (c : List ℕ). targets_of (pointer_links (stream_of e.stream) ++ fid_links v.size c)) b
 
-pub reads_some : (v : Volume) (a : Addr) (o : Option (List Addr)) (ts : List Addr) → o ≡ Some ts → Reads v a o → (e : Entry) × (entry_at v a ≡ Some e) × (ts ≡ entry_targets v a e)
-reads_some v a o ts e r = subst (Reads v a) e r
+pub not_indirect : (v : Volume) (a : Addr) → v.place a ≡ None → is_indirect v a ≡ false
+unfolding is_indirect
+not_indirect v a h = ap (λ (o : Option ℕ). is_address a && is_indirect_by v a o) h ∙ either (is_address a)
+  where
+    either : (b : Bool) → (b && false) ≡ false
+    either true = refl
+    either false = refl
+
+pub indirect_there : (v : Volume) (a : Addr) (sector : ℕ) (block : List ℕ) → is_address a ≡ true → v.place a ≡ Some sector → block ≡ v.disk sector
+    → is_indirect v a ≡ is_id 259 (id_at a.block block)
+unfolding is_indirect
+indirect_there v a sector block h p d =
+    ap (λ (b : Bool). b && is_indirect_by v a (v.place a)) h
+    ∙ ap (is_indirect_by v a) p
+    ∙ ap (λ (b : List ℕ). is_id 259 (id_at a.block b)) (sym d)
+
+-- where no readable entry stands there is an indirect entry, or nothing
+pub reads_other : (v : Volume) (a : Addr) (b : Bool) (s : Sought) → entry_at v a ≡ None → is_indirect v a ≡ b → s ≡ cond b sought.Indirect sought.Nothing → Reads v a s
+reads_other v a true s e h i = subst (Reads v a) (sym i) (e, h)
+reads_other v a false s e h i = subst (Reads v a) (sym i) (e, h)
+
+-- the shape that is made of a list and a content
+pub shape_is : (v : Volume) (a : Addr) (block : List ℕ) (e : Entry) (l : Listing) (s : Shape) → 0 < v.size → entry_of a.block block ≡ Some e → l ≡ listing_at v a block
+    → s.directory ≡ is_directory e → s.content ≡ length (linking v a e) → s.embedded ≡ cond (e.kind == 3) (Some (length e.body)) None → pieces_seen s.pieces.items ≡ merged a l.extents l.runs
+    → IsShape v a e s
+unfolding listing_at listing
+shape_is v a block e l s some h i d c m p = record {
+  directory = d;
+  content = c;
+  embedded = m;
+  pieces =
+      let list : l ≡ listing v a e = i ∙ ap (listing_by v a) h in
+      p ∙ ap (λ (x : Listing). merged a x.extents x.runs) list ∙ list_merged v a e some;
+}

@@ -158,6 +158,14 @@ leads_targets : (a : Addr) (links : List Link) → leads_among a (targets_of lin
 leads_targets a [] = refl
 leads_targets a (f ∷ fs) = ap (λ b. same_addr (target_of f.says) a || b) (leads_targets a fs)
 
+pub next_done : (next : ℕ) (x : Spot) (q rest : List Spot) → next ≤ length q → drop next q ≡ x ∷ rest → take (next + 1) q ≡ take next q ++ x ∷ []
+next_done next x q rest low here =
+    ap (take (next + 1)) (sym whole ∙ sym (append_assoc (take next q) (x ∷ []) rest))
+    ∙ take_at (take next q ++ x ∷ []) rest (next + 1) (let l = length-append (take next q) (x ∷ []) in let count = length-take-le next q low in omega (arith, count, l))
+  where
+    whole : take next q ++ x ∷ rest ≡ q
+    whole = ap (λ l. take next q ++ l) (sym here) ∙ take-append-drop next q
+
 pub visit_ends : (s : Setting) (t : Tree) (next : ℕ) (x : Spot) (ts : List Addr) (q : List Spot) → ts ≡ targets_of (whole_links t x.at) → Visit (found_graph s t) t next x ts q → IsQueueAt (found_graph s t) (next + 1) q
 unfolding found_graph
 visit_ends s t next x ts q all m = subst (λ (d : List Spot). IsQueue g d (drop (next + 1) q)) (sym done) (subst (IsQueue g (take next q ++ x ∷ [])) rest (queue_next g (take next q) x m.rest edges m.queue))
@@ -172,7 +180,7 @@ visit_ends s t next x ts q all m = subst (λ (d : List Spot). IsQueue g d (drop 
     count = length-take-le next q m.inside
 
     done : take (next + 1) q ≡ take next q ++ x ∷ []
-    done = ap (take (next + 1)) (sym whole ∙ sym (append_assoc (take next q) (x ∷ []) m.rest)) ∙ take_at (take next q ++ x ∷ []) m.rest (next + 1) (let l = length-append (take next q) (x ∷ []) in omega (arith, count))
+    done = next_done next x q m.rest m.inside m.here
 
     rest : m.rest ≡ drop (next + 1) q
     rest = sym (ap (drop (next + 1)) (sym whole ∙ sym (append_assoc (take next q) (x ∷ []) m.rest)) ∙ drop_at (take next q ++ x ∷ []) m.rest (next + 1) (let l = length-append (take next q) (x ∷ []) in omega (arith, count)))

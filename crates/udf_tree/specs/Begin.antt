@@ -2,7 +2,7 @@
 use Rattle.std.specs.Prelude.{◌≡◌, true, List}
 use Rattle.udf_file_model.specs.Listing.{Volume}
 use Rattle.udf_tree_model.specs.Among.{Member}
-use Rattle.udf_tree_model.specs.Frame.{Frame, is_holder, places, tree_of}
+use Rattle.udf_tree_model.specs.Frame.{Frame, is_holder, places}
 use Rattle.udf_tree.specs.declared.arena.Found.{Found}
 use Rattle.udf_tree.specs.declared.starts.Starts.{Starts}
 use Rattle.udf_tree.specs.Seen.{AreRead, HasHolder, spots}
@@ -19,5 +19,5 @@ pub record HasStarts (f : Frame) (s : Starts) : Type 0 where
 pub record IsHolderAlone (f : Frame) (v : Volume) (q : List Found) : Type 0 where
   pub holder : HasHolder f v q
   pub alone : (x : Spot) → Member x (spots q) → (is_holder f v x.at ≡ true) × (x.level ≡ 0)
-  pub read : AreRead (tree_of f v) q
+  pub read : AreRead f v q
   pub placed : IsPlaced (places v) (spots q)

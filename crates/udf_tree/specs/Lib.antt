@@ -8,3 +8,8 @@ pub mod Begin
 pub mod Identifiers
 pub mod Wanted
 pub mod Winners
+pub mod Beyond
+pub mod Merged
+pub mod Shape
+pub mod Standing
+pub mod Entries

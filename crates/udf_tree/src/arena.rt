@@ -2,17 +2,20 @@
 ghost use Rattle.std.specs.Prelude.{◌≡◌, ◌<◌, ◌+◌, ◌^◌, ◌++◌, ◌∷◌, [], length, OnOk, OnErr, false, slice_index_or};
 ghost use Rattle.udf_tree.specs.Order.{is_known};
 
+use crate::shape::Shape;
 use std::alloc::{AllocError, Global};
 use std::collections::BTreeSet;
 use std::marker::Model;
 use udf_field::Addr;
 
-/// A found entry: its address, how many links it is away from a start, and the addresses to which its links lead.
+/// A found entry: its address, how many links it is away from a start, the addresses to which its links lead, and what its block
+/// states. The holder of the pointer to the system stream directory has no shape.
 #[derive(Debug, Drop)]
 pub struct Found {
     pub at: Addr,
     pub level: u64,
     pub targets: Vec<Addr>,
+    pub shape: Option<Shape>,
 }
 
 /// The found entries, seen as their list.

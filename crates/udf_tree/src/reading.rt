@@ -1,71 +1,122 @@
-// The block of an entry, read for its links.
-ghost use Rattle.std.specs.Prelude.{◌≡◌, ◌<◌, ◌/◌, ℕ, true, IfOk, IsSome, Some, length, option_map};
+// What stands at an address at which an entry is sought.
+ghost use Rattle.std.specs.Prelude.{◌≡◌, ◌<◌, ◌/◌, ℕ, true, IfOk, IsSome, Some, None, ◌==◌, if◌then◌else◌, length};
 ghost use Rattle.udf_field.specs.declared.address.Addr.{Addr};
 ghost use Rattle.udf_model.specs.Size.{is_size};
 ghost use Rattle.udf_outside.specs.Files.{IsAttached};
 ghost use Rattle.udf_outside.specs.Stops.{bytes_of};
 ghost use Rattle.udf_outside.specs.Reads.{OnlyReads};
 ghost use Rattle.udf_outside.specs.declared.bench.Role.TheVariants.{Image};
+ghost use Rattle.udf_model.specs.Tag.{id_at, is_id};
 ghost use Rattle.udf_file_model.specs.Entry.{Entry, entry_of, is_directory};
-ghost use Rattle.udf_file_model.specs.Listing.{volume_of};
+ghost use Rattle.udf_file_model.specs.Listing.{listing_at, volume_of};
+ghost use Rattle.udf_tree.specs.declared.reading.Sought.TheVariants.{Indirect, Nothing};
 ghost use Rattle.udf_tree.specs.Target.{entry_targets, linking};
-ghost use Rattle.udf_tree.specs.Read.{Reads};
+ghost use Rattle.udf_tree.specs.Read.{IsPlacedWhere, Reads};
 
+use crate::beyond::Beyond;
+use crate::pieces::pieces_of;
+use crate::shape::Shape;
 use crate::target::targets;
 use std::alloc::Global;
-use udf_entry::{ListStop, content_of, list_of, read_entry};
-use udf_field::Addr;
+use udf_entry::{Entry, List, ListStop, content_of, list_of, read_entry};
+use udf_field::{Addr, id_at};
 use udf_layer::Parts;
 use udf_outside::{Bench, read_block};
+
+// The identifier of an indirect entry's tag (ECMA-167 4/14.7).
+const INDIRECT_ENTRY: u16 = 259;
+
+// The kind of an entry whose content is embedded (ECMA-167 4/14.6.8).
+const EMBEDDED: u8 = 3;
+
+/// What was read at an address: a readable entry, with the targets of its links, its shape and what this profile has not of it; an
+/// indirect entry; or neither.
+#[derive(Drop)]
+pub(crate) enum Sought {
+    Entry(Vec<Addr>, Shape, Beyond),
+    Indirect,
+    Nothing,
+}
+
+// The bytes of an embedded content, where the entry has one.
+fn embedded_in(entry: &Entry<'_>) -> Option<u32>
+    ensures { result ≡ (if entry.now.kind == 3 then Some (length entry.now.body) else None) }
+{
+    if entry.kind() == EMBEDDED {
+        Some(entry.body().len() as u32)
+    } else {
+        None
+    }
+}
 
 // The content of an entry that is read for its links: of a directory up to the good length of its list.
 fn linking_content<B: Bench, P: Parts>(
     alloc: Global,
     bench: &mut B,
     parts: &P,
-    at: Addr,
     block: &[u8],
+    list: &List,
     directory: bool,
 ) -> Result<Vec<u8>, ListStop>
     requires attached { IsAttached Image (B.files bench.old) }
     requires size { is_size (length block.now) ≡ true }
     requires placed { (a : Addr) (s : ℕ) → P.place parts.now a ≡ Some s → s < (B.files bench.old).image.size / length block.now }
-    ensures content { B.tells → (e : Entry) → entry_of at.block block.now ≡ Some e → is_directory e ≡ directory → IfOk result (λ content. content.items
-        ≡ linking (volume_of (length block.now) (bytes_of Image (B.held bench.old)) (P.place parts.now)) at e) }
+    ensures content { B.tells → (a : Addr) (e : Entry) → entry_of a.block block.now ≡ Some e → is_directory e ≡ directory
+        → list.now ≡ listing_at (volume_of (length block.now) (bytes_of Image (B.held bench.old)) (P.place parts.now)) a block.now
+        → IfOk result (λ content. content.items
+        ≡ linking (volume_of (length block.now) (bytes_of Image (B.held bench.old)) (P.place parts.now)) a e) }
     ensures reads { OnlyReads B.files B.held B.faults bench.old bench.new ListStop.Fault result }
 {
     if !directory {
         return Ok(Vec::new(alloc));
     }
-    let list = list_of(alloc, bench, parts, at, block)?;
-    content_of(alloc, bench, parts, block, &list, list.good_length())
+    content_of(alloc, bench, parts, block, list, list.good_length())
 }
 
-// The targets of the links of the readable entry at an address, where there is one. `room` is lent and has the block size.
-pub(crate) fn read_targets<B: Bench, P: Parts>(
+// What a block without a readable entry is.
+fn other_in(block: &[u8], location: u32) -> Sought
+    ensures { result ≡ (if is_id 259 (id_at location block.now) then Indirect else Nothing) }
+{
+    match id_at(block, location) {
+        Some(INDIRECT_ENTRY) => Sought::Indirect,
+        _ => Sought::Nothing,
+    }
+}
+
+/// What stands at an address. `room` is lent and has the block size.
+pub(crate) fn read_sought<B: Bench, P: Parts>(
     alloc: Global,
     bench: &mut B,
     parts: &P,
     size: u32,
     at: Addr,
     room: &mut [u8],
-) -> Result<Option<Vec<Addr>>, ListStop>
+) -> Result<Sought, ListStop>
     requires attached { IsAttached Image (B.files bench.old) }
     requires size { is_size size ≡ true }
     requires placed { (a : Addr) (s : ℕ) → P.place parts.now a ≡ Some s → s < (B.files bench.old).image.size / size }
     requires room { length room.old ≡ size }
-    ensures targets { B.tells → IfOk result (λ o. Reads (volume_of size (bytes_of Image (B.held bench.old)) (P.place parts.now)) at (option_map (λ t. t.items) o)) }
-    ensures placed { IfOk result (λ o. IsSome o → IsSome (P.place parts.now at)) }
+    ensures sought { B.tells → IfOk result (Reads (volume_of size (bytes_of Image (B.held bench.old)) (P.place parts.now)) at) }
+    ensures placed { IfOk result (IsPlacedWhere (IsSome (P.place parts.now at))) }
     ensures room { length room.new ≡ length room.old }
     ensures reads { OnlyReads B.files B.held B.faults bench.old bench.new ListStop.Fault result }
 {
     let Some(sector) = parts.locate(at) else {
-        return Ok(None);
+        return Ok(Sought::Nothing);
     };
     read_block(bench, size, sector, room)?;
     let Some(entry) = read_entry(room, at.block) else {
-        return Ok(None);
+        return Ok(other_in(room, at.block));
     };
-    let content = linking_content(alloc, bench, parts, at, room, entry.is_directory())?;
-    Ok(Some(targets(alloc, entry.stream(), &content, size)?))
+    let directory = entry.is_directory();
+    let list = list_of(alloc, bench, parts, at, room)?;
+    let content = linking_content(alloc, bench, parts, room, &list, directory)?;
+    let shape = Shape {
+        directory,
+        content: content.len() as u64,
+        embedded: embedded_in(&entry),
+        pieces: pieces_of(alloc, at, &list)?,
+    };
+    let targets = targets(alloc, entry.stream(), &content, size)?;
+    Ok(Sought::Entry(targets, shape, Beyond::of(&entry)))
 }

@@ -41,6 +41,7 @@ pub(crate) fn holder<P: Parts>(
         at: file_set,
         level: 0,
         targets,
+        shape: None,
     })?;
     Ok(arena)
 }

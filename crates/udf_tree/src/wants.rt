@@ -1,26 +1,24 @@
 // What an entry wants of a volume's blocks.
-ghost use Rattle.std.specs.Prelude.{◌≡◌, ◌++◌, ◌∷◌, [], ◌<◌, ◌/◌, ℕ, true, false, not, OnOk, IfOk, Some, length};
+ghost use Rattle.std.specs.Prelude.{◌≡◌, ◌++◌, ◌∷◌, [], ◌<◌, OnOk, Some};
 ghost use Rattle.udf_field.specs.declared.address.Addr.{Addr};
-ghost use Rattle.udf_model.specs.Size.{is_size};
-ghost use Rattle.udf_outside.specs.Files.{IsAttached};
-ghost use Rattle.udf_outside.specs.Stops.{bytes_of};
-ghost use Rattle.udf_outside.specs.Reads.{OnlyReads};
-ghost use Rattle.udf_outside.specs.declared.bench.Role.TheVariants.{Image};
 ghost use Rattle.udf_claims.specs.Winner.{number};
 ghost use Rattle.udf_file_model.specs.Entry.{Entry, is_directory};
 ghost use Rattle.udf_file_model.specs.Front.{blocks_for};
-ghost use Rattle.udf_file_model.specs.Listing.{volume_of};
-ghost use Rattle.udf_tree_model.specs.Frame.{Frame, block_class, extent_class};
+ghost use Rattle.udf_file_model.specs.Listing.{Volume};
+ghost use Rattle.udf_file_model.specs.Pieces.{extents_of, runs_of};
+ghost use Rattle.udf_tree_model.specs.Frame.{Frame, block_class, entry_at, extent_class};
 ghost use Rattle.udf_entry.specs.RunView.{run_seen};
+ghost use Rattle.udf_tree.specs.Shape.{IsShape, piece_seen, pieces_seen};
 ghost use Rattle.udf_tree.specs.Wanted.{extent_wants, fixed_wants, run_want, run_wants, want, wants_at};
 
+use crate::pieces::Piece;
+use crate::shape::Shape;
 use crate::stretch::Stretch;
-use std::alloc::{AllocError, Global};
+use std::alloc::AllocError;
 use udf_claims::Claims;
-use udf_entry::{List, ListStop, Run, list_of, read_entry};
+use udf_entry::Run;
 use udf_field::Addr;
 use udf_layer::Parts;
-use udf_outside::{Bench, read_block};
 
 // How strong a want is: a lower class is stronger. Of the root its whole list is of the class ROOT.
 const FIXED: u8 = 0;
@@ -39,7 +37,7 @@ const FILE: u8 = 5;
 const FIXED_OWNER: u64 = 0x1_0000_0000_0000;
 
 // The kind of a descriptor of a hole (ECMA-167 4/14.14.1.1).
-const HOLE: u8 = 2;
+pub(crate) const HOLE: u8 = 2;
 
 // The blocks of a part: one for each block number.
 const BLOCKS: u64 = 0x1_0000_0000;
@@ -52,7 +50,7 @@ pub(crate) fn owner_of(at: Addr) -> u64
 }
 
 // The blocks that so many bytes take.
-fn blocks_of(size: u32, bytes: u32) -> u32
+pub(crate) fn blocks_of(size: u32, bytes: u32) -> u32
     requires { 0 < size }
     ensures { result ≡ blocks_for size bytes }
 {
@@ -96,18 +94,34 @@ fn add_want<P: Parts>(
     claims.add(owner, at, many.min(left), class)
 }
 
+// Adds an owner's want of a piece that is an allocation extent.
+fn add_extent<P: Parts>(
+    claims: &mut Claims,
+    parts: &P,
+    owner: u64,
+    class: u8,
+    piece: &Piece,
+) -> Result<(), AllocError>
+    ensures { OnOk result (claims.new ≡ claims.old ++ extent_wants (P.blocks parts.now) owner class (extents_of (piece_seen piece.now ∷ []))) }
+{
+    match piece {
+        Piece::Extent(at) => add_want(claims, parts, owner, class, *at, 1),
+        Piece::Blocks(_) => Ok(()),
+    }
+}
+
 // Adds an owner's wants of the allocation extents of its list.
 fn add_extents<P: Parts>(
     claims: &mut Claims,
     parts: &P,
     owner: u64,
     class: u8,
-    list: &List,
+    pieces: &[Piece],
 ) -> Result<(), AllocError>
-    ensures { OnOk result (claims.new ≡ claims.old ++ extent_wants (P.blocks parts.now) owner class list.now.extents) }
+    ensures { OnOk result (claims.new ≡ claims.old ++ extent_wants (P.blocks parts.now) owner class (extents_of (pieces_seen pieces.now))) }
 {
-    for i in 0..list.extents() {
-        add_want(claims, parts, owner, class, list.extent(i), 1)?;
+    for piece in pieces {
+        add_extent(claims, parts, owner, class, piece)?;
     }
     Ok(())
 }
@@ -138,6 +152,24 @@ fn add_run<P: Parts>(
     )
 }
 
+// Adds an owner's want of the blocks of a piece that is a run.
+fn add_blocks<P: Parts>(
+    claims: &mut Claims,
+    parts: &P,
+    size: u32,
+    owner: u64,
+    class: u8,
+    piece: &Piece,
+) -> Result<(), AllocError>
+    requires { 0 < size }
+    ensures { OnOk result (claims.new ≡ claims.old ++ run_wants (P.blocks parts.now) size owner class (runs_of (piece_seen piece.now ∷ []))) }
+{
+    match piece {
+        Piece::Extent(_) => Ok(()),
+        Piece::Blocks(run) => add_run(claims, parts, size, owner, class, *run),
+    }
+}
+
 // Adds an owner's wants of the blocks of its list.
 fn add_runs<P: Parts>(
     claims: &mut Claims,
@@ -145,13 +177,13 @@ fn add_runs<P: Parts>(
     size: u32,
     owner: u64,
     class: u8,
-    list: &List,
+    pieces: &[Piece],
 ) -> Result<(), AllocError>
     requires { 0 < size }
-    ensures { OnOk result (claims.new ≡ claims.old ++ run_wants (P.blocks parts.now) size owner class list.now.runs) }
+    ensures { OnOk result (claims.new ≡ claims.old ++ run_wants (P.blocks parts.now) size owner class (runs_of (pieces_seen pieces.now))) }
 {
-    for i in 0..list.len() {
-        add_run(claims, parts, size, owner, class, list.run(i))?;
+    for piece in pieces {
+        add_blocks(claims, parts, size, owner, class, piece)?;
     }
     Ok(())
 }
@@ -177,38 +209,22 @@ pub(crate) fn add_fixed<P: Parts>(
     Ok(())
 }
 
-/// Adds what the readable entry at an address wants. `room` is lent and has the block size.
-pub(crate) fn add_wants<B: Bench, P: Parts>(
-    alloc: Global,
-    bench: &mut B,
+/// Adds what the entry of a shape at an address wants.
+pub(crate) fn add_wants<P: Parts>(
+    claims: &mut Claims,
     parts: &P,
     size: u32,
     root: Addr,
     at: Addr,
-    claims: &mut Claims,
-    room: &mut [u8],
-) -> Result<(), ListStop>
-    requires attached { IsAttached Image (B.files bench.old) }
-    requires size { is_size size ≡ true }
-    requires placed { (a : Addr) (s : ℕ) → P.place parts.now a ≡ Some s → s < (B.files bench.old).image.size / size }
-    requires room { length room.old ≡ size }
-    ensures wants { B.tells → (f : Frame) → f.root ≡ root → OnOk result (claims.new ≡ claims.old
-        ++ wants_at (P.blocks parts.now) f (volume_of size (bytes_of Image (B.held bench.old)) (P.place parts.now)) at) }
-    ensures room { length room.new ≡ length room.old }
-    ensures reads { OnlyReads B.files B.held B.faults bench.old bench.new ListStop.Fault result }
+    shape: &Shape,
+) -> Result<(), AllocError>
+    requires { 0 < size }
+    ensures { (f : Frame) (v : Volume) (e : Entry) → f.root ≡ root → v.size ≡ size → entry_at v at ≡ Some e → IsShape v at e shape.now
+        → OnOk result (claims.new ≡ claims.old ++ wants_at (P.blocks parts.now) f v at) }
 {
-    let Some(sector) = parts.locate(at) else {
-        return Ok(());
-    };
-    read_block(bench, size, sector, room)?;
-    let Some(entry) = read_entry(room, at.block) else {
-        return Ok(());
-    };
-    let class = block_class(root, at, entry.is_directory());
-    let list = list_of(alloc, bench, parts, at, room)?;
     let owner = owner_of(at);
+    let class = block_class(root, at, shape.directory);
     add_want(claims, parts, owner, OWN_BLOCK, at, 1)?;
-    add_extents(claims, parts, owner, extent_class(root, at), &list)?;
-    add_runs(claims, parts, size, owner, class, &list)?;
-    Ok(())
+    add_extents(claims, parts, owner, extent_class(root, at), &shape.pieces)?;
+    add_runs(claims, parts, size, owner, class, &shape.pieces)
 }

@@ -24,7 +24,7 @@ use Rattle.udf_tree_model.specs.Laws.{HasSoundStarts}
 use Rattle.udf_tree_model.proofs.Places.{same_address, address_same}
 use Rattle.udf_tree_model.proofs.Finding.{found_least, volume_within}
 
-blocks_reach : (size bytes : ℕ) → 0 < size → bytes ≤ blocks_for size bytes * size
+pub blocks_reach : (size bytes : ℕ) → 0 < size → bytes ≤ blocks_for size bytes * size
 blocks_reach size bytes some = over (nat_le bytes (blocks_for size bytes * size)) refl
   where
     past : blocks_for size bytes * size < bytes → ⊥
@@ -75,7 +75,7 @@ module _ (size class : ℕ) (barred : Addr → Bool) (some : 0 < size) where
           whole = omega arith
 
   -- the bytes of a list block by block are those of its descriptors
-  items_bytes : (extents : ℕ) (ps : List Piece) → bytes_of (items size extents class barred ps) ≡ size_of ps
+  pub items_bytes : (extents : ℕ) (ps : List Piece) → bytes_of (items size extents class barred ps) ≡ size_of ps
   unfolding items runs_of
   items_bytes extents [] = refl
   items_bytes extents (Extent x ∷ rest) = let r : bytes_of (items size extents class barred rest) ≡ size_of rest = items_bytes extents rest in omega (arith, r)

@@ -1,5 +1,5 @@
-use Rattle.std.proofs.Common.{rules, ◌≡◌, ◌+◌, ℕ, suc, List, None, take, get_or, arith, refl, sym, ◌∙◌, subst, false}
-use Rattle.std.proofs.lemmas.List.{length-map, get_or_default}
+use Rattle.std.proofs.Common.{rules, ◌≡◌, ◌+◌, ◌++◌, ◌∷◌, [], ℕ, suc, List, None, take, get_or, arith, refl, sym, ap, ◌∙◌, subst, true, false}
+use Rattle.std.proofs.lemmas.List.{length-map, get_or_default, take_all, take_more}
 use Rattle.udf_field.specs.declared.address.Addr.{Addr}
 use Rattle.udf_outside.specs.Stops.{bytes_of, Held}
 use Rattle.udf_outside.specs.declared.bench.Role.TheVariants.{Image}
@@ -7,10 +7,14 @@ use Rattle.udf_file_model.specs.Address.{addr}
 use Rattle.udf_file_model.specs.Listing.{Volume, volume_of}
 use Rattle.udf_tree_model.specs.Frame.{Frame, places, tree_of}
 use Rattle.udf_tree.specs.declared.arena.Found.{Found}
+use Rattle.udf_tree_model.specs.Refused.{is_indirect}
+use Rattle.udf_tree.specs.Beyond.{IsBeyond}
+use Rattle.udf_tree.specs.Order.{is_known}
 use Rattle.udf_tree.specs.Seen.{AreRead, HasHolder, IsWithin, spots}
-use Rattle.udf_tree.specs.Spot.{spot}
+use Rattle.udf_tree.specs.Spot.{addresses, spot}
 use Rattle.udf_tree.specs.Visit.{Adds}
 use Rattle.udf_tree.proofs.Going.{level_low, arena_grows, going_begins, going_more, going_ends, targets_whole, same_node}
+use Rattle.udf_tree.proofs.Seeing.{found_plain, front_stays, known_found, seen_ends}
 use Rattle.udf_tree.proofs.Visiting.{placed_adds}
 use Rattle.udf_tree.proofs.find.add_targets.Goals as goal
 
@@ -19,6 +23,8 @@ loop-target-init g c = record {
   levels = c.requires.levels;
   grows = omega arith;
   visits = λ tells f n e h. going_begins f (volume_of c.args.size (bytes_of Image (g.B.Bench.held c.args.bench.now)) (g.P.Parts.place c.args.parts.now)) c.args.next c.args.arena.now n c.requires.inside e h;
+  front = refl;
+  seen = λ tells f set at h. h;
   room = c.requires.room;
   files = refl;
   held = refl;
@@ -44,7 +50,7 @@ loop-target-preserved g c =
     let up : m.level + 1 ≡ suc m.level = omega arith in
     let adds : (f : Frame) → Adds (g.B.Bench.tells × HasHolder f v q) (tree_of f v) (places v) a (suc m.level) (spots q) (spots r) = λ f.
     subst (λ (k : ℕ). Adds (g.B.Bench.tells × HasHolder f v q) (tree_of f v) (places v) a k (spots q) (spots r)) up
-    (subst (λ (x : Held). Adds (g.B.Bench.tells × HasHolder f (vol x) q) (tree_of f (vol x)) (places (vol x)) a (m.level + 1) (spots q) (spots r)) inv.held (c.in_ok-add.ensures.adds f)) in
+    (subst (λ (x : Held). Adds (g.B.Bench.tells × HasHolder f (vol x) q) (tree_of f (vol x)) (places (vol x)) a (m.level + 1) (spots q) (spots r)) inv.held (c.in_ok-seen.ensures.adds f)) in
     let some : Frame = record { fixed = λ x. false; after = addr 0 0; file_set = addr 0 0; root = addr 0 0; system = None } in
     let low = level_low (places v) c.args.arena.now c.args.next m c.requires.levels c.requires.inside c.node-node.ensures.node in
     let long = length-map q (λ (x : Found). spot x.at x.level) in
@@ -55,14 +61,22 @@ loop-target-preserved g c =
       visits = λ tells f n e h.
           let same : c.in_ok-targets.targets.items ≡ m.targets.items = search rules in
           let whole = targets_whole f v c.args.next c.args.arena.now m items c.requires.inside c.node-node.ensures.node (c.deref-target-items.ensures.value ∙ same) h in
-          let read : HasHolder f v q → AreRead (tree_of f v) q → AreRead (tree_of f v) r = λ k b.
-          subst (λ (x : Held). HasHolder f (vol x) q → AreRead (tree_of f (vol x)) q → AreRead (tree_of f (vol x)) r) inv.held (c.in_ok-add.ensures.read tells f) k b in
+          let read : HasHolder f v q → AreRead f v q → AreRead f v r = λ k b.
+          subst (λ (x : Held). HasHolder f (vol x) q → AreRead f (vol x) q → AreRead f (vol x) r) inv.held (c.in_ok-seen.ensures.read tells f) k b in
           subst (λ (y : Found). IsWithin f v c.args.next (spot y.at y.level) (take (i + 1) items) r) (sym (same_node c.args.arena.now c.args.next n m c.requires.inside e c.node-node.ensures.node))
           (going_more g.B.Bench.tells tells f v c.args.next (spot m.at m.level) items i a q r whole c.loop-target-test.true (get_or_default items i (addr 0 0) a c.loop-target-test.true) (adds f) read (inv.visits tells f m c.node-node.ensures.node h));
-      room = c.in_ok-add.ensures.room ∙ inv.room;
-      files = c.in_ok-add.ensures.reads.files ∙ inv.files;
-      held = c.in_ok-add.ensures.reads.held ∙ inv.held;
-      calm = c.in_ok-add.ensures.reads.calm ∙ inv.calm;
+      front = front_stays (g.B.Bench.tells × HasHolder some v q) (tree_of some v) (places v) a (suc m.level) c.args.next (spots q) (spots r) (omega (arith, long, inv.grows, c.requires.inside)) (adds some) ∙ inv.front;
+      seen = λ tells f set h b.
+          let within = inv.visits tells f m c.node-node.ensures.node h in
+          let more : take (i + 1) items ≡ take i items ++ a ∷ [] = take_more items i a c.loop-target-test.true ∙ ap (λ (y : Addr). take i items ++ y ∷ []) (sym (get_or_default items i (addr 0 0) a c.loop-target-test.true)) in
+          let one = subst (λ (x : Held). (is_known a q ≡ true → is_indirect (vol x) a ≡ false) → (done ts : List Addr) → IsBeyond f (vol x) done ts (spots q) c.loop-target.seen
+          → IsBeyond f (vol x) done (ts ++ a ∷ []) (spots r) c.in_ok-seen.seen) inv.held (c.in_ok-seen.ensures.seen tells f) in
+          subst (λ (ts : List Addr). IsBeyond f v (addresses (take c.args.next (spots c.args.arena.now))) ts (spots r) c.in_ok-seen.seen) (sym more)
+          (one (λ k. found_plain f v set a (known_found f v c.args.next (spot m.at m.level) (take i items) q within a k)) (addresses (take c.args.next (spots c.args.arena.now))) (take i items) (inv.seen tells f set h b));
+      room = c.in_ok-seen.ensures.room ∙ inv.room;
+      files = c.in_ok-seen.ensures.reads.files ∙ inv.files;
+      held = c.in_ok-seen.ensures.reads.held ∙ inv.held;
+      calm = c.in_ok-seen.ensures.reads.calm ∙ inv.calm;
     }
 
 pub returns-clause-visits : goal.returns-clause-visits
@@ -73,3 +87,15 @@ returns-clause-visits g c tells f h =
     let same : c.in_ok-targets.targets.items ≡ m.targets.items = search rules in
     let whole = targets_whole f v c.args.next c.args.arena.now m items c.requires.inside c.node-node.ensures.node (c.deref-target-items.ensures.value ∙ same) h in
     going_ends f v c.args.next (spot m.at m.level) items c.loop-target.target-index c.loop-target.arena whole (omega (arith, c.loop-target-test.false)) (c.loop-target.invariant.visits tells f m c.node-node.ensures.node h)
+
+pub returns-clause-seen : goal.returns-clause-seen
+returns-clause-seen g c tells f set h b =
+    let v : Volume = volume_of c.args.size (bytes_of Image (g.B.Bench.held c.args.bench.now)) (g.P.Parts.place c.args.parts.now) in
+    let inv = c.loop-target.invariant in
+    let m : Found = c.node-node.result.now in
+    let items : List Addr = c.deref-target-items.result.now in
+    let same : c.in_ok-targets.targets.items ≡ m.targets.items = search rules in
+    let whole = targets_whole f v c.args.next c.args.arena.now m items c.requires.inside c.node-node.ensures.node (c.deref-target-items.ensures.value ∙ same) h in
+    let all : take c.loop-target.target-index items ≡ items = take_all c.loop-target.target-index items (omega (arith, c.loop-target-test.false)) in
+    seen_ends f v c.args.next (spot m.at m.level) (take c.loop-target.target-index items) c.args.arena.now c.loop-target.arena c.loop-target.seen (all ∙ whole) inv.front
+    (inv.visits tells f m c.node-node.ensures.node h) (inv.seen tells f set h b)

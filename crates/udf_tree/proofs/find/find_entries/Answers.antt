@@ -1,73 +1,22 @@
-use Rattle.std.proofs.Common.{rules, ◌≡◌, ◌+◌, List, length, arith, refl, sym, ap, ◌∙◌, subst, false}
-use Rattle.udf_outside.specs.Stops.{bytes_of, Held}
+use Rattle.std.proofs.Common.{Option, sym, ap, ◌∙◌}
+use Rattle.std.specs.Prelude.{option_map}
+use Rattle.udf_layer.specs.declared.missing.ProfileItem.{ProfileItem}
+use Rattle.udf_layer.specs.declared.missing.Missing.TheVariants as missing
+use Rattle.udf_outside.specs.Stops.{bytes_of}
 use Rattle.udf_outside.specs.declared.bench.Role.TheVariants.{Image}
-use Rattle.udf_file_model.specs.Address.{addr}
 use Rattle.udf_file_model.specs.Listing.{Volume, volume_of}
-use Rattle.udf_tree_model.specs.Frame.{Frame, places, setting_of, tree_of}
-use Rattle.udf_tree.specs.declared.arena.Found.{Found}
-use Rattle.udf_tree.specs.Begin.{HasStarts, IsHolderAlone}
-use Rattle.udf_tree.specs.Seen.{HasHolder, IsAt, spots}
-use Rattle.udf_tree.specs.Spot.{IsFoundList}
-use Rattle.udf_tree.specs.Visit.{IsPlaced}
-use Rattle.udf_tree.proofs.Beginning.{placed_few, room_stays, search_begins, search_ends}
-use Rattle.udf_tree.proofs.Visiting.{placed_adds}
+use Rattle.udf_tree.specs.Seen.{spots}
+use Rattle.udf_tree.proofs.Seeing.{refusal_is}
 use Rattle.udf_tree.proofs.find.find_entries.Goals as goal
 
-pub loop-next-init : goal.loop-next-init
-loop-next-init g c =
-    let vol : Held → Volume = λ x. volume_of c.args.size (bytes_of Image x) (g.P.Parts.place c.args.parts.now) in
-    let v : Volume = vol (g.B.Bench.held c.args.bench.now) in
-    let e = c.in_ok-add.ensures in
-    let same : vol (g.B.Bench.held c.add.new.bench) ≡ v = ap vol e.reads.held in
-    let q : List Found = c.in_ok-arena.arena in
-    let r : List Found = c.add.new.arena in
-    let alone : (f : Frame) → HasStarts f c.args.starts → IsHolderAlone f v q = λ f s. c.in_ok-arena.ensures f v s.file_set s.system refl in
-    let some : Frame = record { fixed = λ x. false; after = addr 0 0; file_set = c.args.starts.file_set; root = c.args.starts.root; system = c.args.starts.system } in
-    let own : HasStarts some c.args.starts = record { file_set = refl; root = refl; system = refl } in
-    let whole : c.in_ok-room.room.len ≡ c.args.size = search rules in
-    let filled : length c.in_ok-room.room.items ≡ c.args.size = search rules in
-    let lent : length c.add.new.room ≡ length c.in_ok-room.room.items = search rules in
-    record {
-      levels = subst (λ (u : Volume). IsPlaced (places u) (spots r)) (sym same)
-          (placed_adds (g.B.Bench.tells × HasHolder some v q) (tree_of some v) (places v) c.args.starts.root 0 (spots q) (spots r) (e.adds some) (omega arith) (alone some own).placed);
-      inside = omega arith;
-      visits = λ tells f s. subst (λ (u : Volume). IsAt f u 0 r) (sym same)
-          (search_begins g.B.Bench.tells tells f v c.args.starts.root q r s.root (alone f s) (e.adds f) (e.read tells f));
-      room = room_stays c.in_ok-room.room.len c.add.new.room c.in_ok-room.room.items (whole ∙ sym filled) lent ∙ whole;
-      files = refl;
-      held = refl;
-      calm = refl;
-    }
+pub returns-in-Some-clause-refusal : goal.returns-in-Some-clause-refusal
+returns-in-Some-clause-refusal g c tells f s set =
+    let v : Volume = volume_of c.args.size (bytes_of Image (g.B.Bench.held c.args.bench.now)) (g.P.Parts.place c.args.parts.now) in
+    refusal_is f v (spots c.in_ok-arena.arena) (c.in_ok-arena.ensures.found tells f s) c.in_ok-arena.seen (c.in_ok-arena.ensures.seen tells f s set)
+    ∙ ap (λ (o : Option ProfileItem). option_map (λ i. missing.Profile i) o) (sym c.item.ensures.first ∙ c.in-Some.is)
 
-pub loop-next-smaller : goal.loop-next-smaller
-loop-next-smaller g c =
-    let few = placed_few (places (volume_of c.args.size (bytes_of Image (g.B.Bench.held c.add.new.bench)) (g.P.Parts.place c.args.parts.now))) c.loop-next.arena c.loop-next.invariant.levels in
-    omega (arith, few, c.loop-next-test.true, c.len.ensures)
-
-pub loop-next-preserved : goal.loop-next-preserved
-loop-next-preserved g c =
-    let vol : Held → Volume = λ x. volume_of c.args.size (bytes_of Image x) (g.P.Parts.place c.args.parts.now) in
-    let inv = c.loop-next.invariant in
-    let e = c.in_ok-add_targets.ensures in
-    let same : vol (g.B.Bench.held c.loop-next.bench) ≡ vol (g.B.Bench.held c.add.new.bench) = ap vol inv.held in
-    let r : List Found = c.add_targets.new.arena in
-    let whole : c.loop-next.room.len ≡ length c.loop-next.room.items = search rules in
-    let lent : length c.add_targets.new.room ≡ length c.loop-next.room.items = search rules in
-    record {
-      levels = subst (λ (u : Volume). IsPlaced (places u) (spots r)) same e.levels;
-      inside = omega (arith, e.grows, c.loop-next-test.true, c.len.ensures);
-      visits = λ tells f s. subst (λ (u : Volume). IsAt f u (c.loop-next.next + 1) r) same
-          (e.visits tells f (subst (λ (u : Volume). IsAt f u c.loop-next.next c.loop-next.arena) (sym same) (inv.visits tells f s)));
-      room = room_stays c.loop-next.room.len c.add_targets.new.room c.loop-next.room.items whole lent ∙ whole ∙ inv.room;
-      files = e.reads.files ∙ inv.files;
-      held = e.reads.held ∙ inv.held;
-      calm = e.reads.calm ∙ inv.calm;
-    }
-
-pub returns-clause-found : goal.returns-clause-found
-returns-clause-found g c tells f s =
-    let vol : Held → Volume = λ x. volume_of c.args.size (bytes_of Image x) (g.P.Parts.place c.args.parts.now) in
-    let inv = c.loop-next.invariant in
-    let same : vol (g.B.Bench.held c.add.new.bench) ≡ vol (g.B.Bench.held c.args.bench.now) = ap vol c.in_ok-add.ensures.reads.held in
-    subst (λ (u : Volume). IsFoundList (setting_of f u) (tree_of f u) (spots c.loop-next.arena)) same
-    (search_ends f (vol (g.B.Bench.held c.add.new.bench)) c.loop-next.next c.loop-next.arena (omega (arith, c.loop-next-test.false, c.len.ensures)) inv.levels (inv.visits tells f s))
+pub returns-in-None-clause-refusal : goal.returns-in-None-clause-refusal
+returns-in-None-clause-refusal g c tells f s set =
+    let v : Volume = volume_of c.args.size (bytes_of Image (g.B.Bench.held c.args.bench.now)) (g.P.Parts.place c.args.parts.now) in
+    refusal_is f v (spots c.in_ok-arena.arena) (c.in_ok-arena.ensures.found tells f s) c.in_ok-arena.seen (c.in_ok-arena.ensures.seen tells f s set)
+    ∙ ap (λ (o : Option ProfileItem). option_map (λ i. missing.Profile i) o) (sym c.item.ensures.first ∙ c.in-None.is)

@@ -1,4 +1,4 @@
-use Rattle.std.proofs.Common.{rules, ◌≡◌, ◌<◌, ◌++◌, ◌∷◌, [], List, ℕ, Option, true, false, arith, refl, sym, ap, ◌∙◌}
+use Rattle.std.proofs.Common.{rules, ◌≡◌, ◌<◌, ◌++◌, ◌∷◌, [], List, ℕ, Option, None, true, false, arith, refl, sym, ap, ◌∙◌}
 use Rattle.std.specs.Prelude.{is_some}
 use Rattle.udf_field.specs.declared.address.Addr.{Addr}
 use Rattle.udf_tree.specs.declared.arena.Found.{Found}
@@ -21,7 +21,7 @@ returns g c f v i s p =
     let items : c.push.new.self.items ≡ c.in-Some.target ∷ [] = search rules in
     let part : c.args.file_set.part < 65536 = omega arith in
     let block : c.args.file_set.block < 4294967296 = omega arith in
-    let node : Found = record { at = c.args.file_set; level = 0; targets = c.push.new.self } in
-    with_holder f v node c.in-Some.target c.push-2.new.self (s ∙ c.in-Some.is) i refl items (address_is c.args.file_set part block)
+    let node : Found = record { at = c.args.file_set; level = 0; targets = c.push.new.self; shape = None } in
+    with_holder f v node c.in-Some.target c.push-2.new.self (s ∙ c.in-Some.is) i refl items refl (address_is c.args.file_set part block)
     (ap (λ (k : Addr → Option ℕ). is_some (k c.args.file_set)) p ∙ ap (λ (o : Option ℕ). is_some o) (sym c.locate.ensures) ∙ some)
     (c.in_ok-push-2.ensures.ok ∙ ap (λ (l : List Found). l ++ node ∷ []) c.new-arena.ensures)

@@ -1,8 +1,10 @@
 use Rattle.std.proofs.Common.{◌≡◌, ◌++◌, drop}
+use Rattle.udf_file_model.specs.Pieces.{extents_of}
+use Rattle.udf_tree.specs.Shape.{pieces_seen}
 use Rattle.udf_tree.specs.Wanted.{extent_wants}
 use Rattle.udf_tree.proofs.wants.add_extents.Given as goal
 
-abbrev pub invariant-loop-i : goal.invariant-loop-i
-invariant-loop-i g l =
-    l.claims ++ extent_wants (g.P.Parts.blocks l.parts) l.owner l.class (drop l.i l.list.extents)
-    ≡ l.initial.claims ++ extent_wants (g.P.Parts.blocks l.parts) l.owner l.class l.list.extents
+abbrev pub invariant-loop-piece : goal.invariant-loop-piece
+invariant-loop-piece g l =
+    l.claims ++ extent_wants (g.P.Parts.blocks l.parts) l.owner l.class (extents_of (pieces_seen (drop l.piece-index l.pieces)))
+    ≡ l.initial.claims ++ extent_wants (g.P.Parts.blocks l.parts) l.owner l.class (extents_of (pieces_seen l.pieces))

@@ -1,0 +1,52 @@
+-- What is known before the entries of a volume are surveyed, and the refusals that follow.
+use Rattle.std.specs.Prelude.{◌≡◌, Bool, false, List, Option, Some, None}
+use Rattle.udf_field.specs.declared.address.Addr.{Addr}
+use Rattle.udf_layer.specs.declared.missing.ProfileItem.TheVariants as item
+use Rattle.udf_layer.specs.declared.missing.Missing.{Missing}
+use Rattle.udf_layer.specs.declared.missing.Missing.TheVariants as missing
+use Rattle.udf_layer.specs.declared.missing.LayerStop.{LayerStop}
+use Rattle.udf_layer.specs.declared.missing.LayerStop.TheVariants as stops
+use Rattle.udf_tree_model.specs.Frame.{Frame}
+use Rattle.udf_tree_model.specs.Refused.{Refusal, Strategy, ExtendedDescriptors, AttributeFile, RootDirectory}
+use Rattle.udf_tree.specs.declared.shape.Shape.{Shape}
+use Rattle.udf_tree.specs.declared.standing.Standing.{Standing}
+use Rattle.udf_tree.specs.declared.starts.Starts.{Starts}
+use Rattle.udf_tree.specs.declared.stretch.Stretch.{Stretch}
+use Rattle.udf_tree.specs.Begin.{HasStarts}
+use Rattle.udf_tree.specs.Beyond.{RefusesEntries}
+use Rattle.udf_tree.specs.Wanted.{stretches_over}
+
+-- the frame has these starts, this address after the file set, and these fixed addresses
+pub record HasOutline (f : Frame) (s : Starts) (after : Addr) (fixed : List Stretch) : Type 0 where
+  pub starts : HasStarts f s
+  pub after_is : f.after ≡ after
+  pub fixed_are : (a : Addr) → f.fixed a ≡ stretches_over fixed a
+
+-- a refusal of a volume by the name that layers have for it
+abbrev pub missing_of : Option Refusal → Option Missing
+missing_of None = None
+missing_of (Some Strategy) = Some (missing.Profile item.Strategy)
+missing_of (Some ExtendedDescriptors) = Some (missing.Profile item.ExtendedDescriptors)
+missing_of (Some AttributeFile) = Some (missing.Profile item.AttributeFile)
+missing_of (Some RootDirectory) = Some missing.RootDirectory
+
+-- a refusal for entries or for the root, or none
+abbrev pub RefusesFiles : LayerStop → Type 0
+RefusesFiles (stops.Missing missing.RootDirectory) = Unit {0}
+RefusesFiles (stops.Missing missing.TooLarge) = ⊥
+RefusesFiles (stops.Missing missing.Anchor) = ⊥
+RefusesFiles (stops.Missing missing.Sequence) = ⊥
+RefusesFiles (stops.Missing (missing.Profile item)) = RefusesEntries (stops.Missing (missing.Profile item))
+RefusesFiles (stops.Missing missing.Layout) = ⊥
+RefusesFiles (stops.Missing missing.SparingTable) = ⊥
+RefusesFiles (stops.Missing missing.WriteProtected) = ⊥
+RefusesFiles stops.Fault = Unit {0}
+RefusesFiles stops.Memory = Unit {0}
+
+abbrev pub is_directory_shape : Option Shape → Bool
+is_directory_shape None = false
+is_directory_shape (Some s) = s.directory
+
+abbrev pub is_sound_by : Option Standing → Bool
+is_sound_by None = false
+is_sound_by (Some x) = x.sound
