@@ -23,6 +23,8 @@ pub enum ProfileItem {
     Unbuilt,
     /// A space table, an integrity table or freed space.
     SpaceTables,
+    /// A file set that names a further extent of file sets (ECMA-167 4/14.1.17).
+    FileSets,
     /// A found entry of another strategy than 4, or a link to an indirect entry (ECMA-167 4/14.6.2 and 4/14.7).
     Strategy,
     /// A found entry with extended allocation descriptors (ECMA-167 4/14.6.8).
@@ -45,6 +47,8 @@ pub enum Missing {
     Layout,
     /// No sparing table is whole, or a used packet of the prevailing one does not lie as it must.
     SparingTable,
+    /// No file set stands whole in the extent that the logical volume names, or that extent does not lie as it must.
+    FileSet,
     /// The root is not a directory that wins its own block and has room for a parent FID.
     RootDirectory,
     /// The volume is not to be written, which a repair would do.

@@ -22,6 +22,7 @@ fn item(item: ProfileItem) -> &'static str
         ProfileItem::PartitionMaps => "PartitionMaps",
         ProfileItem::Unbuilt => "Unbuilt",
         ProfileItem::SpaceTables => "SpaceTables",
+        ProfileItem::FileSets => "FileSets",
         ProfileItem::Strategy => "Strategy",
         ProfileItem::ExtendedDescriptors => "ExtendedDescriptors",
         ProfileItem::AttributeFile => "AttributeFile",
@@ -38,6 +39,7 @@ fn add_name(text: &mut Vec<u8>, missing: Missing) -> Result<(), AllocError>
         Missing::Sequence => text.extend_from_slice(b"Sequence"),
         Missing::Layout => text.extend_from_slice(b"Layout"),
         Missing::SparingTable => text.extend_from_slice(b"SparingTable"),
+        Missing::FileSet => text.extend_from_slice(b"FileSet"),
         Missing::RootDirectory => text.extend_from_slice(b"RootDirectory"),
         Missing::WriteProtected => text.extend_from_slice(b"WriteProtected"),
         Missing::Profile(profile) => {

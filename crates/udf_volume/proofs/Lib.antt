@@ -24,3 +24,6 @@ pub mod Sparings
 pub mod Packets
 pub mod Openings
 pub mod Deviating
+pub mod Stretched
+pub mod Cleared
+pub mod Sited

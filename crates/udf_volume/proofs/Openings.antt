@@ -91,6 +91,7 @@ of_description missing.Sequence e = tt
 of_description (missing.Profile item) e = e
 of_description missing.Layout e = tt
 of_description missing.SparingTable e = absurd e
+of_description missing.FileSet e = e
 of_description missing.RootDirectory e = e
 of_description missing.WriteProtected e = e
 

@@ -13,3 +13,5 @@ pub mod Taken
 pub mod Writable
 pub mod Refusals
 pub mod Verdicts
+pub mod Fixed
+pub mod FileSet

@@ -18,3 +18,4 @@ pub mod Opened
 pub mod Same
 pub mod Order
 pub mod Plans
+pub mod FileSet
