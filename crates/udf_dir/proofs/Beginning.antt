@@ -1,10 +1,10 @@
 -- The test for a FID, step by step.
-use Rattle.std.proofs.Common.{◌≡◌, ℕ, ◌<◌, ◌≤◌, arith, refl, sym, ◌∙◌, ap, List, length, take, Bool, true, false, cond, ◌&&◌, Some, None}
+use Rattle.std.proofs.Common.{◌≡◌, ℕ, ◌<◌, ◌≤◌, arith, refl, sym, ◌∙◌, ap, List, [], length, take, drop, Bool, true, false, cond, ◌&&◌, Some, None}
 use Rattle.std.specs.Prelude.{nat_le}
 use Rattle.std.proofs.Math.Bool.{and-false}
 use Rattle.std.proofs.lemmas.Bool.{and_parts}
 use Rattle.std.proofs.lemmas.Bool.Decides.{nat_tests}
-use Rattle.std.proofs.lemmas.List.{length-take-le}
+use Rattle.std.proofs.lemmas.List.{drop_all, length-take-le}
 use Rattle.udf_model.specs.Tag.{is_id, whole_id}
 use Rattle.udf_file_model.specs.Fid.{fid_length, fid_bytes, begins_with_fid, fid_at}
 use Rattle.udf_file_model.proofs.Fids.{least, front_length}
@@ -65,3 +65,7 @@ fid_there size bytes fid n h is of =
 pub none_there : (size : ℕ) (bytes : List ℕ) → begins_with_fid size bytes ≡ false → None ≡ fid_at size bytes
 unfolding fid_at
 none_there size bytes h = sym (ap (λ t. cond t (Some (fid_bytes bytes)) None) h)
+
+-- no FID begins past the end
+pub none_past : (size at : ℕ) (content : List ℕ) → length content < at → None ≡ fid_at size (drop at content)
+none_past size at content over = none_there size (drop at content) (ap (begins_with_fid size) (drop_all at content (omega (arith, over))) ∙ sym (too_short size [] (omega arith)))

@@ -96,7 +96,8 @@ impl<'a> Fid<'a> {
         self.has_parent_bit() && !self.is_deleted()
     }
 
-    fn is_deleted(&self) -> bool
+    /// Whether the FID is deleted (ECMA-167 4/14.4.3).
+    pub fn is_deleted(&self) -> bool
         ensures { result ≡ is_deleted self.now }
     {
         self.marks().contains(Marks::DELETED)

@@ -13,7 +13,7 @@ mod same;
 mod scanner;
 
 pub use canonical::{CanonicalName, canonical_name};
-pub use content::{is_whole, scan};
+pub use content::{fid_at, is_whole, scan};
 pub use fid::Fid;
 pub use marks::Marks;
 pub use packed::{Packed, pack};

@@ -57,6 +57,10 @@ ranks_over s t a (d ∷ ds) = ranks_in s t a d ++ ranks_over s t a ds
 unfoldable pub chosen : Setting → Tree → Addr → Option Rank
 chosen s t a = first_rank (ranks_over s t a s.places)
 
+-- the chosen link to what is no start: a start has none, whatever leads to it
+unfoldable pub chosen_link : Setting → Tree → Addr → Option Rank
+chosen_link s t a = cond (s.start a) None (chosen s t a)
+
 abbrev pub is_rank : Addr → Link → Option Rank → Bool
 is_rank d f None = false
 is_rank d f (Some x) = same_addr x.holder d && nat_eq x.place f.place

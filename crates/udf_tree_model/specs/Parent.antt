@@ -8,7 +8,7 @@ use Rattle.udf_tree_model.specs.Link.{Link, is_pointer}
 use Rattle.udf_tree_model.specs.Node.{Tree, Setting, node_at}
 use Rattle.udf_tree_model.specs.Rounds.{Graph, reached}
 use Rattle.udf_tree_model.specs.Found.{leads_to}
-use Rattle.udf_tree_model.specs.Chosen.{Rank, first_rank, chosen, fitted}
+use Rattle.udf_tree_model.specs.Chosen.{Rank, first_rank, chosen_link, fitted}
 use Rattle.udf_tree_model.specs.Kept.{kept, depth}
 use Rattle.udf_tree_model.specs.Frame.{Frame, setting_of, tree_of}
 
@@ -43,7 +43,7 @@ is_pointer_rank (Some x) = x.place == 0
 
 -- a stream directory is a kept directory whose chosen link is a pointer
 unfoldable pub is_stream_directory : Setting → Tree → Addr → Bool
-is_stream_directory s t a = kept s t a && ((node_at t a).directory && is_pointer_rank (chosen s t a))
+is_stream_directory s t a = kept s t a && ((node_at t a).directory && is_pointer_rank (chosen_link s t a))
 
 -- from the root by fitted FIDs alone
 unfoldable pub ordinary_graph : Frame → Volume → Graph
