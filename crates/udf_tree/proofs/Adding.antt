@@ -21,7 +21,9 @@ use Rattle.udf_tree.specs.Seen.{AreRead, HasHolder, spots}
 use Rattle.udf_tree.specs.declared.shape.Shape.{Shape}
 use Rattle.udf_tree.specs.Shape.{IsShape, IsShaped}
 use Rattle.udf_tree.specs.Spot.{spot, addresses, knows}
-use Rattle.udf_tree.specs.Target.{targets_of, entry_targets}
+use Rattle.udf_tree_model.specs.Link as model
+use Rattle.udf_tree.specs.Linked.{AreLinks}
+use Rattle.udf_tree.specs.Target.{entry_links}
 use Rattle.udf_tree.specs.Visit.{Adds}
 use Rattle.udf_tree.proofs.Visiting.{knows_push}
 
@@ -81,22 +83,22 @@ added tells f v a l q r n i j k h p e s = record {
     list : spots r ≡ spots q ++ spot a l ∷ []
     list = ap spots s ∙ spots_push q n ∙ ap (λ (b : Addr). spots q ++ spot b n.level ∷ []) i ∙ ap (λ (m : ℕ). spots q ++ spot a m ∷ []) j
 
--- the entry's targets are those of its node's links
-entry_links : (f : Frame) (v : Volume) (a : Addr) (e : Entry) → entry_at v a ≡ Some e → is_holder f v a ≡ false → 0 < v.size → entry_targets v a e ≡ targets_of (whole_links (tree_of f v) a)
-unfolding entry_targets whole_links node_with
-entry_links f v a e h k some =
-    ap (λ (m : ℕ). targets_of ((node_with f v a e (list_for v a e)).links m)) (sym (length_is f v a e h k some))
-    ∙ ap (λ (n : Node). targets_of (n.links (tree_length (tree_of f v) a))) (sym (node_is f v a e h k))
+-- the entry's links are those of its node
+pub links_there : (f : Frame) (v : Volume) (a : Addr) (e : Entry) → entry_at v a ≡ Some e → is_holder f v a ≡ false → 0 < v.size → entry_links v a e ≡ whole_links (tree_of f v) a
+unfolding entry_links whole_links node_with
+links_there f v a e h k some =
+    ap (λ (m : ℕ). (node_with f v a e (list_for v a e)).links m) (sym (length_is f v a e h k some))
+    ∙ ap (λ (n : Node). n.links (tree_length (tree_of f v) a)) (sym (node_is f v a e h k))
 
-pub read_push : (f : Frame) (v : Volume) (q r : List Found) (n : Found) → 0 < v.size → is_known n.at q ≡ false → (e : Entry) × (entry_at v n.at ≡ Some e) × (n.targets.items ≡ entry_targets v n.at e) × ((s : Shape) × (n.shape ≡ Some s) × IsShape v n.at e s)
+pub read_push : (f : Frame) (v : Volume) (q r : List Found) (n : Found) → 0 < v.size → is_known n.at q ≡ false → (e : Entry) × (entry_at v n.at ≡ Some e) × AreLinks (entry_links v n.at e) n.links.items × ((s : Shape) × (n.shape ≡ Some s) × IsShape v n.at e s)
     → r ≡ q ++ n ∷ [] → HasHolder f v q → AreRead f v q → AreRead f v r
 read_push f v q r n some k e s h a = subst (AreRead f v) (sym s) (record { each = λ x m. go x (member_append q (n ∷ []) x m); shapes = λ x m. shaped x (member_append q (n ∷ []) x m) })
   where
-    go : (x : Found) → Member x q ⊎ Member x (n ∷ []) → x.targets.items ≡ targets_of (whole_links (tree_of f v) x.at)
+    go : (x : Found) → Member x q ⊎ Member x (n ∷ []) → AreLinks (whole_links (tree_of f v) x.at) x.links.items
     go x (inl m) = a.each x m
     go x (inr (inl i)) =
-        let P : Found → Type 0 = λ y. y.targets.items ≡ targets_of (whole_links (tree_of f v) y.at) in
-        subst P (sym i) (e.2 ∙ entry_links f v n.at e.0 e.1 (not_holder f v n.at q h k) some)
+        let P : Found → Type 0 = λ y. AreLinks (whole_links (tree_of f v) y.at) y.links.items in
+        subst P (sym i) (let Q : List model.Link → Type 0 = λ fs. AreLinks fs n.links.items in subst Q (links_there f v n.at e.0 e.1 (not_holder f v n.at q h k) some) e.2)
     go x (inr (inr m)) = absurd m
 
     shaped : (x : Found) → Member x q ⊎ Member x (n ∷ []) → IsShaped f v x.at x.shape

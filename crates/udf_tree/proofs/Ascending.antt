@@ -18,7 +18,7 @@ abbrev pub Ascending : List Addr → Type 0
 Ascending [] = Unit {0}
 Ascending (a ∷ rest) = ((b : Addr) → Member b rest → is_lower a b ≡ true) × Ascending rest
 
-ascending_filter : (p : Addr → Bool) (xs : List Addr) → Ascending xs → Ascending (filter p xs)
+pub ascending_filter : (p : Addr → Bool) (xs : List Addr) → Ascending xs → Ascending (filter p xs)
 ascending_filter p [] h = tt
 ascending_filter p (x ∷ xs) h = go (p x) (ascending_filter p xs h.1)
   where
@@ -87,10 +87,13 @@ ascending_below : (parts blocks : ℕ) → Ascending (addresses_below parts bloc
 unfolding addresses_below
 ascending_below parts blocks = ascending_rows 0 parts blocks
 
+pub places_ascend : (v : Volume) → Ascending (places v)
+unfolding places
+places_ascend v = ascending_filter (is_placed v) (addresses_below 65536 4294967296) (ascending_below 65536 4294967296)
+
 pub ordinary_ascend : (f : Frame) (v : Volume) → Ascending (ordinary_entries f v)
-unfolding ordinary_entries places
-ordinary_ascend f v = ascending_filter (ordinary f v) (filter (is_placed v) (addresses_below 65536 4294967296))
-    (ascending_filter (is_placed v) (addresses_below 65536 4294967296) (ascending_below 65536 4294967296))
+unfolding ordinary_entries
+ordinary_ascend f v = ascending_filter (ordinary f v) (places v) (places_ascend v)
 
 -- none of these is lower
 none_lower : (g : Addr → Bool) (a : Addr) (xs : List Addr) → ((b : Addr) → Member b xs → is_lower b a ≡ false) → list_any (λ b. is_lower b a && g b) xs ≡ false

@@ -23,7 +23,9 @@ use Rattle.udf_tree.specs.Begin.{IsHolderAlone}
 use Rattle.udf_tree.specs.Seen.{AreRead, HasHolder, IsAt, spots}
 use Rattle.udf_tree.specs.Shape.{IsShaped}
 use Rattle.udf_tree.specs.Spot.{Spot, spot, addresses, knows, ComeOnce, Has, Rising, IsQueue, IsFoundList}
-use Rattle.udf_tree.specs.Target.{targets_of}
+use Rattle.udf_tree_model.specs.Link as model
+use Rattle.udf_tree_model.specs.Link.{pointer_link}
+use Rattle.udf_tree.specs.Linked.{AreLinks}
 use Rattle.udf_tree.specs.Visit.{Adds, IsPlaced}
 use Rattle.udf_tree.proofs.Adding.{known_is}
 use Rattle.udf_tree.proofs.Going.{holder_stays}
@@ -44,16 +46,16 @@ holder_start f v a h = (or_right (same_addr a f.root) (is_some f.system && same_
     by None k = absurd (false≢true k)
     by (Some x) k = ap (λ (d : Bool). is_some (cond d (Some (holder_node x)) (node_by f v a (entry_at v a)))) b.1
 
-holder_again : (f : Frame) (v : Volume) (a : Addr) → (is_some f.system && same_addr a f.file_set) ≡ true → readable (tree_of f v) a ≡ true → is_holder f v a ≡ true
+pub holder_again : (f : Frame) (v : Volume) (a : Addr) → (is_some f.system && same_addr a f.file_set) ≡ true → readable (tree_of f v) a ≡ true → is_holder f v a ≡ true
 unfolding is_holder
 holder_again f v a h r =
     let b = and_parts (is_some f.system) (same_addr a f.file_set) h in
     let p = readable_placed f v a r in
     and_from (is_some f.system) (is_file_set f v a) b.0 (and_from (same_addr a f.file_set) (is_address a && is_placed v a) b.1 (and_from (is_address a) (is_placed v a) p.0 p.1))
 
-holder_links : (f : Frame) (v : Volume) (a target : Addr) → f.system ≡ Some target → is_holder f v a ≡ true → targets_of (whole_links (tree_of f v) a) ≡ target ∷ []
+holder_links : (f : Frame) (v : Volume) (a target : Addr) → f.system ≡ Some target → is_holder f v a ≡ true → whole_links (tree_of f v) a ≡ pointer_link target ∷ []
 unfolding whole_links node_at tree_of is_holder
-holder_links f v a target s h = ap (λ (o : Option Node). targets_of ((node_or o).links (good_length (tree_of f v) a))) node
+holder_links f v a target s h = ap (λ (o : Option Node). (node_or o).links (good_length (tree_of f v) a)) node
   where
     here : is_file_set f v a ≡ true
     here = (and_parts (is_some f.system) (is_file_set f v a) h).1
@@ -88,7 +90,7 @@ without_file_set f v q e p = no_holder f v q e (λ a. go a (is_holder f v a) ref
         let d = and_parts (is_address a) (is_placed v a) c.1 in
         absurd (false≢true (sym p ∙ ap (λ (x : Addr). is_some (v.place x)) (sym (same_address a f.file_set c.0)) ∙ d.1))
 
-pub with_holder : (f : Frame) (v : Volume) (n : Found) (target : Addr) (q : List Found) → f.system ≡ Some target → f.file_set ≡ n.at → n.level ≡ 0 → n.targets.items ≡ target ∷ []
+pub with_holder : (f : Frame) (v : Volume) (n : Found) (target : Addr) (q : List Found) → f.system ≡ Some target → f.file_set ≡ n.at → n.level ≡ 0 → AreLinks (pointer_link target ∷ []) n.links.items
     → n.shape ≡ None → is_address n.at ≡ true → is_some (v.place n.at) ≡ true → q ≡ n ∷ [] → IsHolderAlone f v q
 unfolding is_holder
 with_holder f v n target q s i l ts none a p e = subst (IsHolderAlone f v) (sym e) (record {
@@ -107,10 +109,10 @@ with_holder f v n target q s i l ts none a p e = subst (IsHolderAlone f v) (sym 
     alone x (inl k) = (ap (λ (y : Spot). is_holder f v y.at) k ∙ here, ap (λ (y : Spot). y.level) k ∙ l)
     alone x (inr k) = absurd k
 
-    each : (m : Found) → Member m (n ∷ []) → m.targets.items ≡ targets_of (whole_links (tree_of f v) m.at)
+    each : (m : Found) → Member m (n ∷ []) → AreLinks (whole_links (tree_of f v) m.at) m.links.items
     each m (inl k) =
-        let P : Found → Type 0 = λ y. y.targets.items ≡ targets_of (whole_links (tree_of f v) y.at) in
-        subst P (sym k) (ts ∙ sym (holder_links f v n.at target s here))
+        let P : Found → Type 0 = λ y. AreLinks (whole_links (tree_of f v) y.at) y.links.items in
+        subst P (sym k) (let Q : List model.Link → Type 0 = λ fs. AreLinks fs n.links.items in subst Q (sym (holder_links f v n.at target s here)) ts)
     each m (inr k) = absurd k
 
     shapes : (m : Found) → Member m (n ∷ []) → IsShaped f v m.at m.shape

@@ -24,10 +24,12 @@ use Rattle.udf_tree_model.proofs.Finding.{found_readable, volume_within}
 use Rattle.udf_tree_model.proofs.Stating.{entry_node, taken_is}
 use Rattle.udf_tree_model.proofs.Winning.{means_wins, wins_means}
 use Rattle.udf_tree.specs.declared.arena.Found as arena
-use Rattle.udf_tree.specs.declared.stretch.Stretch.{Stretch}
+use Rattle.udf_volume.specs.declared.stretch.Stretch.{Stretch}
 use Rattle.udf_tree.specs.Seen.{spots}
 use Rattle.udf_tree.specs.Spot.{IsFoundList, Spot, addresses as spot_addresses}
-use Rattle.udf_tree.specs.Wanted.{fixed_class, fixed_owner, fixed_wants, stretches_over, want, wants_at, wants_over}
+use Rattle.udf_tree.specs.Wanted.{fixed_class, fixed_owner, fixed_wants, want, wants_at, wants_over}
+use Rattle.udf_volume.specs.Fixed.{stretches_over}
+use Rattle.udf_volume_model.specs.FileSet.{stretch_has}
 use Rattle.udf_tree.specs.Winners.{TellsWinners}
 use Rattle.udf_tree.proofs.Wanted.{Has, address_equal, covers_gives, entry_has, entry_takes, has_more, want_covers}
 
@@ -206,7 +208,7 @@ module _ (blocks : ℕ → ℕ) (f : Frame) (v : Volume) (some : 0 < v.size) (wi
   rs = fixed_wants blocks fixed ++ wants_over blocks f v q
 
   stretch_gives : (xs : List Stretch) (r : Run) (x : Addr) → Member r (fixed_wants blocks xs) → covers r x ≡ true → (r.owner ≡ fixed_owner) × (stretches_over xs x ≡ true)
-  unfolding stretches_over
+  unfolding stretches_over stretch_has
   stretch_gives xs r x m h =
       let k = member_of_map (λ (y : Stretch). want blocks fixed_owner fixed_class y.at y.blocks) xs r m in
       let g = covers_gives blocks fixed_owner fixed_class k.0.at x k.0.blocks (sym (ap (λ (z : Run). covers z x) k.2) ∙ h) in
@@ -216,9 +218,9 @@ module _ (blocks : ℕ → ℕ) (f : Frame) (v : Volume) (some : 0 < v.size) (wi
           → ((y.at.part == x.part) && (nat_le y.at.block x.block && nat_lt x.block (y.at.block + y.blocks))) ≡ true
       test y x p l m = and_from (y.at.part == x.part) _ (grind (arith, nat_tests)) (and_from (nat_le y.at.block x.block) _ (grind (arith, nat_tests)) (grind (arith, nat_tests)))
 
-  stretch_has : (x : Addr) → x.block < blocks x.part → stretches_over fixed x ≡ true → Has (fixed_wants blocks fixed) fixed_owner x fixed_class
-  unfolding stretches_over
-  stretch_has x b h =
+  fixed_has : (x : Addr) → x.block < blocks x.part → stretches_over fixed x ≡ true → Has (fixed_wants blocks fixed) fixed_owner x fixed_class
+  unfolding stretches_over stretch_has
+  fixed_has x b h =
       let g = any_gives (λ (y : Stretch). (y.at.part == x.part) && (nat_le y.at.block x.block && nat_lt x.block (y.at.block + y.blocks))) fixed h in
       let p = and_parts (g.0.at.part == x.part) _ g.2 in
       let r = and_parts (nat_le g.0.at.block x.block) _ p.1 in (
@@ -308,7 +310,7 @@ module _ (blocks : ℕ → ℕ) (f : Frame) (v : Volume) (some : 0 < v.size) (wi
     address = λ a i w. (readable_placed f v a (readable_there a w.found_owner)).0;
     alone = alone_is;
     stands = stands_is;
-    fixed_stands = λ a i w h. has_more (fixed_wants blocks fixed) rs fixed_owner i.at fixed_class (λ r m. member_left (fixed_wants blocks fixed) (wants_over blocks f v q) r m) (stretch_has i.at (wanted_placed a i w) (sym (fixed_are i.at) ∙ h));
+    fixed_stands = λ a i w h. has_more (fixed_wants blocks fixed) rs fixed_owner i.at fixed_class (λ r m. member_left (fixed_wants blocks fixed) (wants_over blocks f v q) r m) (fixed_has i.at (wanted_placed a i w) (sym (fixed_are i.at) ∙ h));
     means = means_is;
   }
     where

@@ -51,6 +51,10 @@ same_before p q (i ∷ is) h =
     ap (λ (b : Bool). cond b (i.bytes + bytes_before p is) 0) (h i (inl refl))
     ∙ ap (λ (n : ℕ). cond (q i) (i.bytes + n) 0) (same_before p q is (λ x m. h x (inr m)))
 
+pub same_all : (p q : Item → Bool) (is : List Item) → ((i : Item) → Member i is → p i ≡ q i) → list_all p is ≡ list_all q is
+same_all p q [] h = refl
+same_all p q (i ∷ is) h = ap (λ (b : Bool). b && list_all p is) (h i (inl refl)) ∙ ap (λ (b : Bool). q i && b) (same_all p q is (λ x m. h x (inr m)))
+
 -- ---- the blocks of a descriptor
 module _ (size class : ℕ) (barred : Addr → Bool) (some : 0 < size) (p : Item → Bool) (d : Descriptor) where
   abbrev block : ℕ → Item

@@ -17,7 +17,9 @@ use Rattle.udf_tree_model.proofs.Finding.{volume_within}
 use Rattle.udf_tree.specs.declared.arena.Found.{Found}
 use Rattle.udf_tree.specs.Seen.{AreRead, HasHolder, IsAt, IsWithin, spots}
 use Rattle.udf_tree.specs.Spot.{Spot, spot, knows}
+use Rattle.udf_tree.specs.Linked.{ends_of}
 use Rattle.udf_tree.specs.Target.{targets_of}
+use Rattle.udf_tree.proofs.Lines.{ends_are}
 use Rattle.udf_tree.specs.Visit.{Adds, IsPlaced, Visit}
 use Rattle.udf_tree.proofs.Adding.{known_is}
 use Rattle.udf_tree.proofs.Visiting.{knows_push, visit_begins, visit_more, visit_ends}
@@ -88,9 +90,9 @@ going_ends f v next x ts n q all l m = record {
   queue = visit_ends (setting_of f v) (tree_of f v) next x (take n ts) (spots q) (take_all n ts l ∙ all) m.visit;
 }
 
-pub targets_whole : (f : Frame) (v : Volume) (next : ℕ) (q : List Found) (n : Found) (ts : List Addr) → next < length q → n ≡ get_or q next n → ts ≡ n.targets.items → IsAt f v next q
+pub targets_whole : (f : Frame) (v : Volume) (next : ℕ) (q : List Found) (n : Found) (ts : List Addr) → next < length q → n ≡ get_or q next n → ts ≡ ends_of n.links.items → IsAt f v next q
     → ts ≡ targets_of (whole_links (tree_of f v) n.at)
-targets_whole f v next q n ts l e s h = s ∙ h.read.each n (member_at q next n l e)
+targets_whole f v next q n ts l e s h = s ∙ ends_are (whole_links (tree_of f v) n.at) n.links.items (h.read.each n (member_at q next n l e))
 
 -- the entry at an index is one
 pub same_node : (q : List Found) (i : ℕ) (n m : Found) → i < length q → n ≡ get_or q i n → m ≡ get_or q i m → n ≡ m

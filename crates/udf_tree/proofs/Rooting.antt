@@ -97,3 +97,11 @@ root_last f v b h e = subst (λ (r : Bool). missing_of (refused r) ≡ cond b No
     last false false true w k = cc
     last false false false true k = refl
     last false false false false k = refl
+
+-- a volume is refused by a name that layers have
+pub none_missing : (r : Option Refusal) → missing_of r ≡ None → r ≡ None
+none_missing None h = refl
+none_missing (Some Strategy) h = cc
+none_missing (Some ExtendedDescriptors) h = cc
+none_missing (Some AttributeFile) h = cc
+none_missing (Some RootDirectory) h = cc

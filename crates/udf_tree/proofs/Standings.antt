@@ -5,6 +5,7 @@ use Rattle.std.specs.List.{list_all, range_with_len}
 use Rattle.std.proofs.lemmas.List.{append-nil, length-take, take_more}
 use Rattle.std.proofs.lemmas.Bool.{and_parts, and_from, cases_lt, or_right, false≢true}
 use Rattle.std.proofs.lemmas.Bool.Decides.{nat_tests}
+use Rattle.std.proofs.lemmas.List.Folds.{list_all-append}
 use Rattle.udf_field.specs.declared.address.Addr.{Addr}
 use Rattle.udf_file_model.specs.Address.{addr, same_addr}
 use Rattle.udf_file_model.specs.Descriptors.{Descriptor}
@@ -33,7 +34,7 @@ use Rattle.udf_tree.specs.declared.standing.Standing.{Standing}
 use Rattle.udf_tree.specs.Standing.{AreBelow, AreStanding, IsFront, IsStanding, is_bar, piece_items, stands}
 use Rattle.udf_tree.specs.Target.{linking}
 use Rattle.udf_tree.specs.Winners.{TellsWinners}
-use Rattle.udf_tree.proofs.Fronting.{FailsAt, all_before, before_within, run_all, run_before, same_before, some_before}
+use Rattle.udf_tree.proofs.Fronting.{FailsAt, all_before, before_within, run_all, run_before, same_all, same_before, some_before}
 
 -- ---- one run
 member_range : (m n k : ℕ) → k < n → Member (m + k) (range_with_len m n)
@@ -163,6 +164,22 @@ module _ (size c1 c2 : ℕ) (some : 0 < size) (barred : Addr → Bool) (test : I
       let b = h.bytes in
       omega (arith, r, b, e, l, n)
 
+  abbrev all : List Piece → Bool
+  all ps = list_all test (items size c1 c2 barred ps)
+
+  whole_more : (p : Piece) (ps : List Piece) (front : Front) (b total : Bool) → IsFront test (piece_items size c1 c2 barred p) front → front.whole ≡ b → all (p ∷ ps) ≡ total → (b && all ps) ≡ total
+  whole_more p ps front b total h w e =
+      ap (λ (c : Bool). c && all ps) (sym w ∙ h.whole)
+      ∙ sym (list_all-append test (piece_items size c1 c2 barred p) (items size c1 c2 barred ps))
+      ∙ ap (list_all test) (sym (pieces_more size c1 c2 barred p ps))
+      ∙ e
+
+  pub next_whole : (p : Piece) (ps : List Piece) (front : Front) (total : Bool) → IsFront test (piece_items size c1 c2 barred p) front → front.whole ≡ true → all (p ∷ ps) ≡ total → all ps ≡ total
+  next_whole p ps front total h w e = whole_more p ps front true total h w e
+
+  pub last_whole : (p : Piece) (ps : List Piece) (front : Front) (total : Bool) → IsFront test (piece_items size c1 c2 barred p) front → front.whole ≡ false → all (p ∷ ps) ≡ total → false ≡ total
+  last_whole p ps front total h w e = whole_more p ps front false total h w e
+
 pub below_piece : (blocks : ℕ → ℕ) (size : ℕ) (p : Piece) (ps : List Piece) → Member p ps → AreBelow blocks (addresses size ps) → AreBelow blocks (addresses size (p ∷ []))
 below_piece blocks size p ps m w = record { low = λ x k. w.low x (among p ps m x k) }
   where
@@ -216,14 +233,14 @@ same_items size c1 c2 p q h (Blocks d ∷ ps) =
     ∙ ap (λ (l : List Item). cond (is_hole d) (empty_item d.length ∷ []) (map (block_item size c2 q d) (range_with_len d.at.block (blocks_for size d.length))) ++ l) (same_items size c1 c2 p q h ps)
 
 -- ---- the list of an entry
-pub embedded_kept : (rs : List Run) (owner : ℕ) (f : Frame) (size : ℕ) (a : Addr) (e : Entry) (ps : List Piece) (n : ℕ) → Some n ≡ cond (e.kind == 3) (Some (length e.body)) None
-    → n ≡ bytes_before (stands rs owner) (items_of f size a e ps)
+pub embedded_front : (rs : List Run) (owner : ℕ) (f : Frame) (size : ℕ) (a : Addr) (e : Entry) (ps : List Piece) (n : ℕ) (front : Front) → Some n ≡ cond (e.kind == 3) (Some (length e.body)) None
+    → front.bytes ≡ n → front.whole ≡ true → IsFront (stands rs owner) (items_of f size a e ps) front
 unfolding items_of bytes_before
-embedded_kept rs owner f size a e ps n h = by_kind (e.kind == 3) h
+embedded_front rs owner f size a e ps n front h i w = by_kind (e.kind == 3) h
   where
     by_kind : (b : Bool) → Some n ≡ cond b (Some (length e.body)) None
-        → n ≡ bytes_before (stands rs owner) (cond b (empty_item (length e.body) ∷ []) (items size (extent_class f a) (block_class f a e) (is_barred f e (runs_of ps)) ps))
-    by_kind true k = let l : n ≡ length e.body = cc in omega (arith, l)
+        → IsFront (stands rs owner) (cond b (empty_item (length e.body) ∷ []) (items size (extent_class f a) (block_class f a e) (is_barred f e (runs_of ps)) ps)) front
+    by_kind true k = let l : n ≡ length e.body = cc in record { bytes = omega (arith, l, i); whole = w }
     by_kind false k = absurd (some_none n k)
       where
         some_none : (n : ℕ) → Some n ≡ None → ⊥
@@ -361,6 +378,12 @@ module _ (f : Frame) (v : Volume) (rs : List Run) (won : TellsWinners (setting_o
         same_before (holds s t a) (stands rs (number a)) (node_at t a).list holds_is
         ∙ ap (λ (n : Node). bytes_before (stands rs (number a)) n.list) (node_is f v a e there other)
 
+    whole_is : list_all (holds s t a) (node_at t a).list ≡ list_all (stands rs (number a)) (items_of f v.size a e (list_for v a e))
+    unfolding node_with
+    whole_is =
+        same_all (holds s t a) (stands rs (number a)) (node_at t a).list holds_is
+        ∙ ap (λ (n : Node). list_all (stands rs (number a)) n.list) (node_is f v a e there other)
+
     own_is : list_all (wins s t a) (node_at t a).own ≡ claims.wins rs (number a) a
     unfolding node_with wants
     own_is =
@@ -392,12 +415,13 @@ module _ (f : Frame) (v : Volume) (rs : List Run) (won : TellsWinners (setting_o
         long : (n : ℕ) → n ≤ good_length v a e → length (content_to v e (list_for v a e) n) ≡ min n c
         long n l = let x = to n in let y = k ∙ to (good_length v a e) in omega (arith, x, y, l)
 
-    pub entry_standing : (x : Standing) (c : ℕ) (directory : Bool) → 0 < v.size → x.kept ≡ bytes_before (stands rs (number a)) (items_of f v.size a e (list_for v a e))
-        → directory ≡ is_directory e → c ≡ length (linking v a e)
+    pub entry_standing : (x : Standing) (front : Front) (c : ℕ) (directory : Bool) → 0 < v.size → IsFront (stands rs (number a)) (items_of f v.size a e (list_for v a e)) front
+        → x.kept ≡ front.bytes → x.whole ≡ front.whole → directory ≡ is_directory e → c ≡ length (linking v a e)
         → x.sound ≡ ((not directory || nat_le fresh_parent_length (min x.kept c)) && claims.wins rs (number a) a) → IsStanding s t a x
     unfolding sound node_with
-    entry_standing x c directory some k d l h = record {
+    entry_standing x front c directory some k n w d l h = record {
       kept = kept;
+      whole = w ∙ k.whole ∙ sym whole_is;
       sound_is =
           h
           ∙ swap (not directory || nat_le fresh_parent_length (min x.kept c)) (claims.wins rs (number a) a)
@@ -409,7 +433,7 @@ module _ (f : Frame) (v : Volume) (rs : List Run) (won : TellsWinners (setting_o
     }
       where
         kept : x.kept ≡ kept_length s t a
-        kept = k ∙ sym kept_is
+        kept = n ∙ k.bytes ∙ sym kept_is
 
         is_kind : (node_at t a).directory ≡ is_directory e
         is_kind = ap (λ (n : Node). n.directory) (node_is f v a e there other)
@@ -425,9 +449,9 @@ module _ (f : Frame) (v : Volume) (rs : List Run) (won : TellsWinners (setting_o
         swap false false = refl
 
 -- the holder of the pointer to the system stream directory wants nothing
-pub holder_standing : (f : Frame) (v : Volume) (a : Addr) (x : Standing) → is_holder f v a ≡ true → found (setting_of f v) (tree_of f v) a ≡ true → x.kept ≡ 0 → x.sound ≡ true → IsStanding (setting_of f v) (tree_of f v) a x
+pub holder_standing : (f : Frame) (v : Volume) (a : Addr) (x : Standing) → is_holder f v a ≡ true → found (setting_of f v) (tree_of f v) a ≡ true → x.kept ≡ 0 → x.whole ≡ true → x.sound ≡ true → IsStanding (setting_of f v) (tree_of f v) a x
 unfolding is_holder tree_of kept_length sound node_at bytes_before
-holder_standing f v a x h here k g = by_system f.system (is_file_set f v a) h refl
+holder_standing f v a x h here k w g = by_system f.system (is_file_set f v a) h refl
   where
     s : Setting
     s = setting_of f v
@@ -438,6 +462,7 @@ holder_standing f v a x h here k g = by_system f.system (is_file_set f v a) h re
     by_node : (o : Addr) → node_at t a ≡ holder_node o → IsStanding s t a x
     by_node o e = record {
       kept = k ∙ sym (ap (λ (n : Node). bytes_before (holds s t a) n.list) e);
+      whole = w ∙ sym (ap (λ (n : Node). list_all (holds s t a) n.list) e);
       sound_is =
           g
           ∙ sym (ap (λ (b : Bool). b && (list_all (wins s t a) (node_at t a).own && (not (node_at t a).directory || (node_at t a).enough (kept_length s t a)))) here

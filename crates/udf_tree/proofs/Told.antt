@@ -1,13 +1,13 @@
 -- What the calls that read an entry tell.
-use Rattle.std.proofs.Common.{subst, ◌≡◌, ℕ, ◌<◌, List, [], ◌++◌, length, Bool, true, false, cond, ◌&&◌, Option, Some, None, Result, Ok, Err, IfOk, refl, sym, ap, ◌∙◌, arith}
+use Rattle.std.proofs.Common.{subst, ◌≡◌, ℕ, ◌<◌, List, [], ◌++◌, Bool, true, false, cond, ◌&&◌, Option, Some, None, Result, Ok, Err, IfOk, refl, sym, ap, ◌∙◌, arith}
 use Rattle.std.specs.Prelude.{◌==◌, nat_lt}
 use Rattle.std.proofs.lemmas.Bool.{and_parts, and_from}
 use Rattle.std.proofs.lemmas.Bool.Decides.{nat_tests}
 use Rattle.udf_field.specs.declared.address.Addr.{Addr}
 use Rattle.udf_model.specs.Tag.{id_at, identifier, is_id, is_whole, location}
 use Rattle.udf_file_model.specs.Entry.{Entry, entry_of, entry_by, entry_header, fitting, header_by, is_directory}
-use Rattle.udf_file_model.specs.Pieces.{runs_of}
-use Rattle.udf_file_model.specs.Listing.{Volume, Listing, listing, listing_at, listing_by, list_for, good_length}
+use Rattle.udf_file_model.specs.Pieces.{Piece, runs_of}
+use Rattle.udf_file_model.specs.Listing.{Volume, Listing, is_good_for, listing, listing_at, listing_by, list_for, good_length}
 use Rattle.udf_file_model.specs.Content.{content, content_by}
 use Rattle.udf_tree_model.specs.Frame.{stream_of, links_of, content_to, entry_at, entry_by as entry_placed, is_address}
 use Rattle.udf_field.specs.declared.address.Long.{Long}
@@ -15,11 +15,9 @@ use Rattle.udf_tree_model.specs.Link.{fid_links, pointer_links}
 use Rattle.udf_tree_model.specs.Refused.{is_indirect, is_indirect_by}
 use Rattle.udf_tree.specs.declared.reading.Sought.{Sought}
 use Rattle.udf_tree.specs.declared.reading.Sought.TheVariants as sought
-use Rattle.udf_tree.specs.declared.shape.Shape.{Shape}
 use Rattle.udf_tree.specs.Merged.{merged}
 use Rattle.udf_tree.specs.Read.{Reads}
-use Rattle.udf_tree.specs.Shape.{IsShape, pieces_seen}
-use Rattle.udf_tree.specs.Target.{entry_targets, linking, targets_of}
+use Rattle.udf_tree.specs.Target.{entry_links, linking}
 use Rattle.udf_tree.proofs.Merging.{list_merged}
 
 pub ok_more : {T E : Type 0} (r : Result T E) (P Q : T → Type 0) → ((x : T) → P x → Q x) → IfOk r P → IfOk r Q
@@ -38,19 +36,29 @@ stated_location at block e h = by_tag (is_whole block && (location block == at))
     by_tag true t k = number_is (location block) at (and_parts (is_whole block) (location block == at) t).1
     by_tag false t k = cc
 
-pub content_is : (v : Volume) (at : Addr) (block : List ℕ) (e : Entry) (l : Listing) (n : ℕ) (c : List ℕ) → entry_of at.block block ≡ Some e → is_directory e ≡ true
-    → l ≡ listing_at v at block → n ≡ l.good_length → c ≡ content_by v l.runs n (entry_of (location block) block) → c ≡ linking v at e
+-- the listing of a block is that of its entry
+pub listed_there : (v : Volume) (a : Addr) (block : List ℕ) (e : Entry) (l : Listing) → entry_of a.block block ≡ Some e → l ≡ listing_at v a block → l ≡ listing v a e
+unfolding listing_at
+listed_there v a block e l h i = i ∙ ap (listing_by v a) h
+
+pub content_up_to : (v : Volume) (at : Addr) (block : List ℕ) (e : Entry) (l : Listing) (n : ℕ) (c : List ℕ) → entry_of at.block block ≡ Some e → is_directory e ≡ true
+    → l ≡ listing_at v at block → c ≡ content_by v l.runs n (entry_of (location block) block) → c ≡ content_to v e (list_for v at e) n
 unfolding content_to listing_at listing
-content_is v at block e l n c h d i j k =
+content_up_to v at block e l n c h d i k =
     let list : l ≡ listing v at e = i ∙ ap (listing_by v at) h in
     let runs : l.runs ≡ runs_of (list_for v at e) = ap (λ (x : Listing). x.runs) list in
-    let bytes : n ≡ good_length v at e = j ∙ ap (λ (x : Listing). x.good_length) list in
     let entry : entry_of (location block) block ≡ Some e = ap (λ (x : ℕ). entry_of x block) (stated_location at.block block e h) ∙ h in
     k
     ∙ ap (content_by v l.runs n) entry
     ∙ ap (λ r. content v e r n) runs
-    ∙ ap (content v e (runs_of (list_for v at e))) bytes
-    ∙ ap (λ (b : Bool). cond b (content v e (runs_of (list_for v at e)) (good_length v at e)) []) (sym d)
+    ∙ ap (λ (b : Bool). cond b (content v e (runs_of (list_for v at e)) n) []) (sym d)
+
+pub content_is : (v : Volume) (at : Addr) (block : List ℕ) (e : Entry) (l : Listing) (n : ℕ) (c : List ℕ) → entry_of at.block block ≡ Some e → is_directory e ≡ true
+    → l ≡ listing_at v at block → n ≡ l.good_length → c ≡ content_by v l.runs n (entry_of (location block) block) → c ≡ linking v at e
+unfolding listing
+content_is v at block e l n c h d i j k =
+    content_up_to v at block e l n c h d i k
+    ∙ ap (content_to v e (list_for v at e)) (j ∙ ap (λ (x : Listing). x.good_length) (listed_there v at block e l h i))
 
 pub content_none : (v : Volume) (at : Addr) (e : Entry) (c : List ℕ) → is_directory e ≡ false → c ≡ [] → c ≡ linking v at e
 unfolding content_to
@@ -77,12 +85,12 @@ entry_there v a sector block h p d =
     ∙ ap (entry_placed v a) p
     ∙ ap (entry_of a.block) (sym d)
 
-pub targets_are : (v : Volume) (a : Addr) (e : Entry) (stream : Option Long) (bytes : List ℕ) → stream ≡ e.stream → bytes ≡ linking v a e
-    → targets_of (pointer_links (stream_of stream) ++ fid_links v.size bytes) ≡ entry_targets v a e
-unfolding entry_targets links_of
-targets_are v a e stream bytes s b =
-    ap (λ (o : Option Long). targets_of (pointer_links (stream_of o) ++ fid_links v.size bytes)) s
-    ∙ ap (λ (c : List ℕ). targets_of (pointer_links (stream_of e.stream) ++ fid_links v.size c)) b
+pub links_are : (v : Volume) (a : Addr) (e : Entry) (stream : Option Long) (bytes : List ℕ) → stream ≡ e.stream → bytes ≡ linking v a e
+    → pointer_links (stream_of stream) ++ fid_links v.size bytes ≡ entry_links v a e
+unfolding entry_links links_of
+links_are v a e stream bytes s b =
+    ap (λ (o : Option Long). pointer_links (stream_of o) ++ fid_links v.size bytes) s
+    ∙ ap (λ (c : List ℕ). pointer_links (stream_of e.stream) ++ fid_links v.size c) b
 
 pub not_indirect : (v : Volume) (a : Addr) → v.place a ≡ None → is_indirect v a ≡ false
 unfolding is_indirect
@@ -106,15 +114,14 @@ reads_other v a true s e h i = subst (Reads v a) (sym i) (e, h)
 reads_other v a false s e h i = subst (Reads v a) (sym i) (e, h)
 
 -- the shape that is made of a list and a content
-pub shape_is : (v : Volume) (a : Addr) (block : List ℕ) (e : Entry) (l : Listing) (s : Shape) → 0 < v.size → entry_of a.block block ≡ Some e → l ≡ listing_at v a block
-    → s.directory ≡ is_directory e → s.content ≡ length (linking v a e) → s.embedded ≡ cond (e.kind == 3) (Some (length e.body)) None → pieces_seen s.pieces.items ≡ merged a l.extents l.runs
-    → IsShape v a e s
-unfolding listing_at listing
-shape_is v a block e l s some h i d c m p = record {
-  directory = d;
-  content = c;
-  embedded = m;
-  pieces =
-      let list : l ≡ listing v a e = i ∙ ap (listing_by v a) h in
-      p ∙ ap (λ (x : Listing). merged a x.extents x.runs) list ∙ list_merged v a e some;
-}
+pub pieces_are : (v : Volume) (a : Addr) (e : Entry) (l : Listing) (ps : List Piece) → 0 < v.size → l ≡ listing v a e → ps ≡ merged a l.extents l.runs → ps ≡ list_for v a e
+unfolding listing
+pieces_are v a e l ps some i m = m ∙ ap (λ (x : Listing). merged a x.extents x.runs) i ∙ list_merged v a e some
+
+pub good_is : (v : Volume) (a : Addr) (e : Entry) (l : Listing) → l ≡ listing v a e → l.good ≡ is_good_for v a e
+unfolding listing
+good_is v a e l i = ap (λ (x : Listing). x.good) i
+
+pub bytes_are : (v : Volume) (a : Addr) (e : Entry) (l : Listing) → l ≡ listing v a e → l.good_length ≡ good_length v a e
+unfolding listing
+bytes_are v a e l i = ap (λ (x : Listing). x.good_length) i

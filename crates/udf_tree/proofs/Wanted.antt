@@ -31,12 +31,12 @@ is_equal m n t = grind (arith, nat_tests)
 pub address_equal : (a b : Addr) → a.part ≡ b.part → a.block ≡ b.block → a ≡ b
 address_equal a b p q = same_address a b (and_from (a.part == b.part) (a.block == b.block) (is_equal a.part b.part p) (is_equal a.block b.block q))
 
-range_gives : (m n x : ℕ) → Member x (range_with_len m n) → (m ≤ x) × (x < m + n)
+pub range_gives : (m n x : ℕ) → Member x (range_with_len m n) → (m ≤ x) × (x < m + n)
 range_gives m zero x h = absurd h
 range_gives m (suc n) x (inl e) = (omega (arith, e), omega (arith, e))
 range_gives m (suc n) x (inr h) = let r = range_gives (m + 1) n x h in (omega (arith, r.0), omega (arith, r.1))
 
-range_from : (m n x : ℕ) → m ≤ x → x < m + n → Member x (range_with_len m n)
+pub range_from : (m n x : ℕ) → m ≤ x → x < m + n → Member x (range_with_len m n)
 range_from m zero x l h = absurd (omega (arith, l, h))
 range_from m (suc n) x l h = go (λ k. range_from (m + 1) n x k (omega (arith, h))) (x == m) refl
   where

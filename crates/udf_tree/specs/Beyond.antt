@@ -99,6 +99,7 @@ IsOfEntry item.VolumePointer = ⊥
 IsOfEntry item.PartitionMaps = ⊥
 IsOfEntry item.Unbuilt = ⊥
 IsOfEntry item.SpaceTables = ⊥
+IsOfEntry item.FileSets = ⊥
 
 -- a refusal for entries, or none
 abbrev pub RefusesEntries : LayerStop → Type 0
@@ -108,6 +109,7 @@ RefusesEntries (stops.Missing missing.Sequence) = ⊥
 RefusesEntries (stops.Missing (missing.Profile item)) = IsOfEntry item
 RefusesEntries (stops.Missing missing.Layout) = ⊥
 RefusesEntries (stops.Missing missing.SparingTable) = ⊥
+RefusesEntries (stops.Missing missing.FileSet) = ⊥
 RefusesEntries (stops.Missing missing.RootDirectory) = ⊥
 RefusesEntries (stops.Missing missing.WriteProtected) = ⊥
 RefusesEntries stops.Fault = Unit {0}

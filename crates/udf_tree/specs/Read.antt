@@ -9,18 +9,19 @@ use Rattle.udf_tree.specs.declared.reading.Sought.{Sought}
 use Rattle.udf_tree.specs.declared.reading.Sought.TheVariants as sought
 use Rattle.udf_tree.specs.Beyond.{beyond_of}
 use Rattle.udf_tree.specs.Shape.{IsShape}
-use Rattle.udf_tree.specs.Target.{entry_targets}
+use Rattle.udf_tree.specs.Linked.{AreLinks}
+use Rattle.udf_tree.specs.Target.{entry_links}
 
--- the targets of the links of the readable entry at an address, its shape, and what this profile has not of it; or an indirect
+-- the links of the readable entry at an address, its shape, and what this profile has not of it; or an indirect
 -- entry, or none
 abbrev pub Reads : Volume → Addr → Sought → Type 0
-Reads v a (sought.Entry targets shape beyond) =
-    (e : Entry) × (entry_at v a ≡ Some e) × (targets.items ≡ entry_targets v a e) × IsShape v a e shape × (beyond ≡ beyond_of e)
+Reads v a (sought.Entry links shape beyond) =
+    (e : Entry) × (entry_at v a ≡ Some e) × AreLinks (entry_links v a e) links.items × IsShape v a e shape × (beyond ≡ beyond_of e)
 Reads v a sought.Indirect = (entry_at v a ≡ None) × (is_indirect v a ≡ true)
 Reads v a sought.Nothing = (entry_at v a ≡ None) × (is_indirect v a ≡ false)
 
 -- the address is placed where an entry was read
 abbrev pub IsPlacedWhere : Type 0 → Sought → Type 0
-IsPlacedWhere placed (sought.Entry targets shape beyond) = placed
+IsPlacedWhere placed (sought.Entry links shape beyond) = placed
 IsPlacedWhere placed sought.Indirect = Unit {0}
 IsPlacedWhere placed sought.Nothing = Unit {0}

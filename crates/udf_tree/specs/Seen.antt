@@ -10,7 +10,7 @@ use Rattle.udf_tree.specs.Order.{is_known}
 use Rattle.udf_tree.specs.Shape.{IsShaped}
 use Rattle.udf_tree.specs.Spot.{Spot, spot, IsQueueAt}
 use Rattle.udf_tree.specs.Visit.{Visit}
-use Rattle.udf_tree.specs.Target.{targets_of}
+use Rattle.udf_tree.specs.Linked.{AreLinks}
 
 abbrev pub spots : List Found → List Spot
 spots q = map (λ n. spot n.at n.level) q
@@ -19,9 +19,9 @@ spots q = map (λ n. spot n.at n.level) q
 pub record HasHolder (f : Frame) (v : Volume) (q : List Found) : Type 0 where
   pub known : (a : Addr) → is_holder f v a ≡ true → is_known a q ≡ true
 
--- each has the targets of its links, and its shape
+-- each has its links, and its shape
 pub record AreRead (f : Frame) (v : Volume) (q : List Found) : Type 0 where
-  pub each : (n : Found) → Member n q → n.targets.items ≡ targets_of (whole_links (tree_of f v) n.at)
+  pub each : (n : Found) → Member n q → AreLinks (whole_links (tree_of f v) n.at) n.links.items
   pub shapes : (n : Found) → Member n q → IsShaped f v n.at n.shape
 
 -- of the found entries the first n are done

@@ -7,8 +7,8 @@ use Rattle.udf_file_model.specs.Pieces.{Piece, Extent, Blocks}
 use Rattle.udf_claims.specs.Winner as claims
 use Rattle.udf_claims.specs.declared.run.Run.{Run}
 use Rattle.udf_tree_model.specs.Among.{Member}
-use Rattle.udf_tree_model.specs.Node.{Item, Setting, Tree}
-use Rattle.udf_tree_model.specs.Won.{bytes_before, kept_length, sound}
+use Rattle.udf_tree_model.specs.Node.{Item, Setting, Tree, node_at}
+use Rattle.udf_tree_model.specs.Won.{bytes_before, holds, kept_length, sound}
 use Rattle.udf_tree_model.specs.Frame.{extent_item, run_items}
 use Rattle.udf_tree.specs.declared.arena.Found.{Found}
 use Rattle.udf_tree.specs.declared.standing.Front.{Front}
@@ -37,9 +37,10 @@ pub record IsFront (p : Item → Bool) (items : List Item) (front : Front) : Typ
   pub bytes : front.bytes ≡ bytes_before p items
   pub whole : front.whole ≡ list_all p items
 
--- the kept length of an entry, and whether it is sound
+-- the kept length of an entry, whether it wins its whole list, and whether it is sound
 pub record IsStanding (s : Setting) (t : Tree) (a : Addr) (x : Standing) : Type 0 where
   pub kept : x.kept ≡ kept_length s t a
+  pub whole : x.whole ≡ list_all (holds s t a) (node_at t a).list
   pub sound_is : x.sound ≡ sound s t a
 
 -- of each found entry, in order

@@ -20,5 +20,6 @@ live_targets (p ∷ ps) = cond (is_live p.1) ((target p.1).at ∷ live_targets p
 abbrev pub linking : Volume → Addr → Entry → List ℕ
 linking v a e = content_to v e (list_for v a e) (good_length v a e)
 
-unfoldable pub entry_targets : Volume → Addr → Entry → List Addr
-entry_targets v a e = targets_of (links_of v.size e (linking v a e))
+-- its links up to there
+unfoldable pub entry_links : Volume → Addr → Entry → List Link
+entry_links v a e = links_of v.size e (linking v a e)

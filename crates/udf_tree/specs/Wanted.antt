@@ -1,6 +1,5 @@
 -- What entries want of a volume's blocks, as runs (ECMA-167 4/14.14: an allocation descriptor speaks of a run of blocks).
-use Rattle.std.specs.Prelude.{ℕ, Bool, ◌-◌, ◌+◌, ◌==◌, ◌&&◌, nat_le, nat_lt, min, if◌then◌else◌, Option, Some, None, List, [], ◌∷◌, ◌++◌, map}
-use Rattle.std.specs.List.{list_any}
+use Rattle.std.specs.Prelude.{ℕ, ◌-◌, min, if◌then◌else◌, Option, Some, None, List, [], ◌∷◌, ◌++◌, map}
 use Rattle.udf_field.specs.declared.address.Addr.{Addr}
 use Rattle.udf_file_model.specs.Descriptors.{Descriptor}
 use Rattle.udf_file_model.specs.Entry.{Entry}
@@ -10,7 +9,7 @@ use Rattle.udf_claims.specs.Winner.{number}
 use Rattle.udf_claims.specs.declared.run.Run.{Run}
 use Rattle.udf_tree_model.specs.Frame.{Frame, block_class, entry_at, extent_class, is_holder, own_class}
 use Rattle.udf_tree.specs.declared.arena.Found.{Found}
-use Rattle.udf_tree.specs.declared.stretch.Stretch.{Stretch}
+use Rattle.udf_volume.specs.declared.stretch.Stretch.{Stretch}
 
 -- so many blocks from an address on, where each part has this many
 abbrev pub want : (ℕ → ℕ) → ℕ → ℕ → Addr → ℕ → Run
@@ -60,7 +59,3 @@ fixed_class = 0
 
 abbrev pub fixed_wants : (ℕ → ℕ) → List Stretch → List Run
 fixed_wants blocks fixed = map (λ x. want blocks fixed_owner fixed_class x.at x.blocks) fixed
-
--- one of the stretches has the address
-unfoldable pub stretches_over : List Stretch → Addr → Bool
-stretches_over xs a = list_any (λ x. (x.at.part == a.part) && (nat_le x.at.block a.block && nat_lt a.block (x.at.block + x.blocks))) xs

@@ -7,8 +7,8 @@ use Rattle.udf_claims.specs.declared.run.Run.{Run}
 use Rattle.udf_tree_model.specs.Node.{Item, Setting, Tree}
 use Rattle.udf_tree_model.specs.Won.{IsWant, wins}
 use Rattle.udf_tree_model.specs.Frame.{Frame}
-use Rattle.udf_tree.specs.Wanted.{stretches_over}
-use Rattle.udf_tree.specs.declared.stretch.Stretch.{Stretch}
+use Rattle.udf_volume.specs.Fixed.{stretches_over}
+use Rattle.udf_volume.specs.declared.stretch.Stretch.{Stretch}
 
 -- the root and the fixed addresses are those of a frame
 pub record IsFramed (f : Frame) (root : Addr) (fixed : List Stretch) : Type 0 where

@@ -2,19 +2,20 @@
 ghost use Rattle.std.specs.Prelude.{◌≡◌, ◌<◌, ◌+◌, ◌^◌, ◌++◌, ◌∷◌, [], length, OnOk, OnErr, false, slice_index_or};
 ghost use Rattle.udf_tree.specs.Order.{is_known};
 
+use crate::link::Link;
 use crate::shape::Shape;
 use std::alloc::{AllocError, Global};
 use std::collections::BTreeSet;
 use std::marker::Model;
 use udf_field::Addr;
 
-/// A found entry: its address, how many links it is away from a start, the addresses to which its links lead, and what its block
-/// states. The holder of the pointer to the system stream directory has no shape.
+/// A found entry: its address, how many links it is away from a start, its links up to the good length of its content, and what its
+/// block states. The holder of the pointer to the system stream directory has no shape.
 #[derive(Debug, Drop)]
 pub struct Found {
     pub at: Addr,
     pub level: u64,
-    pub targets: Vec<Addr>,
+    pub links: Vec<Link>,
     pub shape: Option<Shape>,
 }
 
@@ -71,6 +72,13 @@ impl Arena {
         ensures { result ≡ is_known at self.now }
     {
         self.known.contains(&at)
+    }
+
+    /// Its entries, in order.
+    pub fn into_nodes(self) -> Vec<Found>
+        ensures { result.items ≡ self }
+    {
+        self.nodes
     }
 
     /// Puts an entry with a new address behind the others.

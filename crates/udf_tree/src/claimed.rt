@@ -9,12 +9,12 @@ ghost use Rattle.udf_tree.specs.Wanted.{found_wants, wants_over};
 ghost use Rattle.udf_tree.specs.Winners.{IsFramed, TellsWinners};
 
 use crate::arena::{Arena, Found};
-use crate::stretch::Stretch;
 use crate::wants::{add_fixed, add_wants};
 use std::alloc::{AllocError, Global};
 use udf_claims::Claims;
 use udf_field::Addr;
 use udf_layer::Parts;
+use udf_volume::Stretch;
 
 // Adds what a found entry wants: the holder of the pointer to the system stream directory nothing.
 #[tactic(auto, using(crate::proofs::Wanting::holder_wants))]

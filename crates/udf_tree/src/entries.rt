@@ -8,9 +8,11 @@ ghost use Rattle.udf_outside.specs.Reads.{OnlyReads};
 ghost use Rattle.udf_outside.specs.declared.bench.Role.TheVariants.{Image};
 ghost use Rattle.udf_file_model.specs.Listing.{Volume, volume_of};
 ghost use Rattle.udf_tree_model.specs.Frame.{Frame, setting_of, tree_of};
+ghost use Rattle.udf_tree_model.specs.Stated.{IsFileSetPlaced};
 ghost use Rattle.udf_tree_model.specs.Refused.{has_root, refusal};
 ghost use Rattle.udf_tree.specs.Beyond.{HoldsFileSet, IsAnswer};
-ghost use Rattle.udf_tree.specs.Entries.{HasOutline, RefusesFiles, is_directory_shape, is_sound_by, missing_of};
+ghost use Rattle.udf_tree.specs.Entries.{AreEntries, HasFileSet, HasOutline, RefusesFiles, is_directory_shape, is_sound_by, missing_of};
+ghost use Rattle.udf_tree.specs.Held.{AreHeldOf};
 ghost use Rattle.udf_tree.specs.Seen.{AreRead, spots};
 ghost use Rattle.udf_tree.specs.Spot.{IsFoundList};
 ghost use Rattle.udf_tree.specs.Standing.{AreStanding};
@@ -18,13 +20,20 @@ ghost use Rattle.udf_tree.specs.Standing.{AreStanding};
 use crate::arena::{Arena, Found};
 use crate::claimed::claims_of;
 use crate::find::find_entries;
+use crate::fitted::Selected;
+use crate::held::Held;
+use crate::holding::hold_all;
+use crate::keep::keep;
+use crate::keeping::Keeping;
+use crate::ordinary::ordinary;
+use crate::select::select;
 use crate::standing::{Standing, standings_of};
 use crate::starts::Starts;
-use crate::stretch::Stretch;
 use std::alloc::Global;
 use udf_field::Addr;
 use udf_layer::{LayerStop, Missing, Parts};
 use udf_outside::Bench;
+use udf_volume::{FileSet, Stretch};
 
 // Whether a found entry is a directory that stands as sound.
 fn is_sound_directory(node: &Found, standing: Option<Standing>) -> bool
@@ -65,11 +74,11 @@ fn root_stands(root: Addr, arena: &Arena, standings: &[Standing]) -> bool
     false
 }
 
-/// The found entries of a volume with blocks of `size` bytes, and how each stands, in the same order. `after` is the address after
-/// the extent of the file set, and `fixed` the addresses that no entry may take. An error is the first refusal for what the
-/// entries are or because the root is no sound directory, a fault of the bench, or want of memory. Each block of an entry and each
-/// allocation extent is read once, and the contents of directories alone.
-pub fn survey_entries<B: Bench, P: Parts>(
+// The found entries of a volume with blocks of `size` bytes, and how each stands, in the same order. `after` is the address after
+// the extent of the file set, and `fixed` the addresses that no entry may take. An error is the first refusal for what the
+// entries are or because the root is no sound directory, a fault of the bench, or want of memory. Each block of an entry and each
+// allocation extent is read once, and the contents of directories alone.
+fn standing_entries<B: Bench, P: Parts>(
     alloc: Global,
     bench: &mut B,
     parts: &P,
@@ -84,6 +93,7 @@ pub fn survey_entries<B: Bench, P: Parts>(
     ensures found { B.tells → (f : Frame) → HasOutline f starts after fixed.now → IfOk result (λ t. IsFoundList
         (setting_of f (volume_of size (bytes_of Image (B.held bench.old)) (P.place parts.now)))
         (tree_of f (volume_of size (bytes_of Image (B.held bench.old)) (P.place parts.now))) (spots t.0)) }
+    ensures read { B.tells → (f : Frame) → HasOutline f starts after fixed.now → IfOk result (λ t. AreRead f (volume_of size (bytes_of Image (B.held bench.old)) (P.place parts.now)) t.0) }
     ensures standings { B.tells → (f : Frame) → HasOutline f starts after fixed.now → IfOk result (λ t. AreStanding
         (setting_of f (volume_of size (bytes_of Image (B.held bench.old)) (P.place parts.now)))
         (tree_of f (volume_of size (bytes_of Image (B.held bench.old)) (P.place parts.now))) t.0 t.1.items) }
@@ -101,4 +111,82 @@ pub fn survey_entries<B: Bench, P: Parts>(
     } else {
         Err(LayerStop::Missing(Missing::RootDirectory))
     }
+}
+
+// What the found entries of a volume with blocks of `size` bytes keep, in the same order.
+fn held_entries<B: Bench, P: Parts>(
+    alloc: Global,
+    bench: &mut B,
+    parts: &P,
+    size: u32,
+    starts: Starts,
+    after: Addr,
+    fixed: &[Stretch],
+) -> Result<Vec<Held>, LayerStop>
+    requires attached { IsAttached Image (B.files bench.old) }
+    requires size { is_size size ≡ true }
+    requires placed { (a : Addr) (s : ℕ) → P.place parts.now a ≡ Some s → s < (B.files bench.old).image.size / size }
+    ensures held { B.tells → (f : Frame) → HasOutline f starts after fixed.now → IfOk result (λ held. AreHeldOf f (volume_of size (bytes_of Image (B.held bench.old)) (P.place parts.now)) held.items) }
+    ensures refusal { B.tells → (f : Frame) → HasOutline f starts after fixed.now → HoldsFileSet f (volume_of size (bytes_of Image (B.held bench.old)) (P.place parts.now)) → IsAnswer (missing_of (refusal f (volume_of size (bytes_of Image (B.held bench.old)) (P.place parts.now)))) result }
+    ensures named { IfErr result RefusesFiles }
+    ensures reads { OnlyReads B.files B.held B.faults bench.old bench.new LayerStop.Fault result }
+{
+    let (arena, standings) = standing_entries(alloc, bench, parts, size, starts, after, fixed)?;
+    let held = hold_all(alloc, bench, parts, size, starts.root, arena, &standings)?;
+    Ok(held)
+}
+
+/// What of a volume's files is found and kept, in the order of the found entries: by levels from the root.
+#[derive(Drop)]
+pub struct Entries {
+    pub held: Vec<Held>,
+    /// The chosen link to each, and its fitted links.
+    pub selected: Vec<Selected>,
+    /// How each is kept, or that it is not.
+    pub kept: Vec<Option<Keeping>>,
+    /// Whether each is ordinary: reached from the root by fitted FIDs alone.
+    pub ordinary: Vec<bool>,
+}
+
+/// What of the files of a volume with blocks of `size` bytes is found and kept. An error is the first refusal for what the found
+/// entries are or because the root is no sound directory, a fault of the bench, or want of memory. Each block of an entry, each
+/// allocation extent and each directory's content is read once, and a directory's once more where some of its content is lost.
+pub fn survey_entries<B: Bench, P: Parts>(
+    alloc: Global,
+    bench: &mut B,
+    parts: &P,
+    size: u32,
+    files: &FileSet,
+) -> Result<Entries, LayerStop>
+    requires attached { IsAttached Image (B.files bench.old) }
+    requires size { is_size size ≡ true }
+    requires placed { (a : Addr) (s : ℕ) → P.place parts.now a ≡ Some s → s < (B.files bench.old).image.size / size }
+    ensures entries { B.tells → (f : Frame) → HasFileSet f files.now → HoldsFileSet f (volume_of size (bytes_of Image (B.held bench.old)) (P.place parts.now)) → IsFileSetPlaced f (volume_of size (bytes_of Image (B.held bench.old)) (P.place parts.now)) → IfOk result (AreEntries f (volume_of size (bytes_of Image (B.held bench.old)) (P.place parts.now))) }
+    ensures refusal { B.tells → (f : Frame) → HasFileSet f files.now → HoldsFileSet f (volume_of size (bytes_of Image (B.held bench.old)) (P.place parts.now)) → IsAnswer (missing_of (refusal f (volume_of size (bytes_of Image (B.held bench.old)) (P.place parts.now)))) result }
+    ensures named { IfErr result RefusesFiles }
+    ensures reads { OnlyReads B.files B.held B.faults bench.old bench.new LayerStop.Fault result }
+{
+    let starts = Starts {
+        file_set: files.at,
+        root: files.root,
+        system: files.system,
+    };
+    let held = held_entries(
+        alloc,
+        bench,
+        parts,
+        size,
+        starts,
+        files.fixed.after(),
+        files.fixed.stretches(),
+    )?;
+    let selected = select(alloc, &held)?;
+    let kept = keep(alloc, &held, &selected)?;
+    let ordinary = ordinary(alloc, files.root, &held, &selected)?;
+    Ok(Entries {
+        held,
+        selected,
+        kept,
+        ordinary,
+    })
 }

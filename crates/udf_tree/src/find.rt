@@ -18,6 +18,7 @@ ghost use Rattle.udf_tree.specs.Seen.{AreRead, HasHolder, IsAt, spots};
 
 use crate::arena::{Arena, Found};
 use crate::beyond::Beyond;
+use crate::links::ends;
 use crate::reading::{Sought, read_sought};
 use crate::starts::{Starts, holder};
 use std::alloc::Global;
@@ -62,11 +63,11 @@ fn add<B: Bench, P: Parts>(
     match read_sought(alloc, bench, parts, size, at, room)? {
         Sought::Nothing => Ok(beyond),
         Sought::Indirect => Ok(beyond.with(Beyond::indirect())),
-        Sought::Entry(targets, shape, own) => {
+        Sought::Entry(links, shape, own) => {
             arena.push(Found {
                 at,
                 level,
-                targets,
+                links,
                 shape: Some(shape),
             })?;
             Ok(beyond.with(own))
@@ -104,7 +105,7 @@ fn add_targets<B: Bench, P: Parts>(
 {
     let node = arena.node(next);
     let level = node.level;
-    let targets = Vec::from_slice(alloc, &node.targets)?;
+    let targets = ends(alloc, &node.links)?;
     let mut seen = beyond;
     for target in &targets {
         seen = add(

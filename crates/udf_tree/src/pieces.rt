@@ -72,7 +72,8 @@ fn add_run(
 pub(crate) fn pieces_of(alloc: Global, own: Addr, list: &List) -> Result<Vec<Piece>, AllocError>
     ensures { IfOk result (λ pieces. pieces_seen pieces.items ≡ merged own list.now.extents list.now.runs) }
 {
-    let mut pieces = Vec::new(alloc);
+    let many = list.len().saturating_add(list.extents() as u64);
+    let mut pieces = Vec::with_capacity(alloc, many as usize)?;
     let mut holder = own;
     let mut next = 0;
     for i in 0..list.len() {

@@ -8,7 +8,6 @@ ghost use Rattle.udf_file_model.specs.Listing.{Volume, addresses, list_for};
 ghost use Rattle.udf_file_model.specs.Pieces.{Blocks, runs_of, size_of};
 ghost use Rattle.udf_entry.specs.RunView.{run_seen};
 ghost use Rattle.udf_tree_model.specs.Found.{found};
-ghost use Rattle.udf_tree_model.specs.Won.{bytes_before};
 ghost use Rattle.udf_tree_model.specs.Frame.{Frame, is_first, items, items_of, run_items, setting_of, tree_of};
 ghost use Rattle.udf_tree.specs.Seen.{AreRead, spots};
 ghost use Rattle.udf_tree.specs.Shape.{IsShape, IsShaped, piece_seen, pieces_seen};
@@ -34,11 +33,13 @@ const PARENT_BYTES: u64 = 40;
 pub struct Standing {
     /// The bytes of its content that it keeps: those before the first block or allocation extent that it does not win.
     pub kept: u64,
+    /// Whether it wins each block and allocation extent of its list.
+    pub whole: bool,
     /// Whether it wins its own block and, if it is a directory, keeps room for a parent FID.
     pub sound: bool,
 }
 
-// What is kept of a piece: its bytes before the first block that is lost, and whether none is.
+// What is kept of a piece or a list: its bytes before the first block that is lost, and whether none is.
 #[derive(Clone, Copy, Debug, PartialEq, Eq)]
 struct Front {
     pub bytes: u64,
@@ -137,28 +138,34 @@ fn piece_front<P: Parts>(
     }
 }
 
-// The bytes of a list before the first block or allocation extent that the owner does not win, or that is barred.
-fn kept_of<P: Parts>(
+// What is kept of a list: its bytes before the first block or allocation extent that the owner does not win, or that is barred.
+fn list_front<P: Parts>(
     claims: &Claims,
     parts: &P,
     size: u32,
     owner: u64,
     bar: Option<Addr>,
     pieces: &[Piece],
-) -> u64
+) -> Front
     requires { 0 < size }
     ensures { (extents class : ℕ) → AreBelow (P.blocks parts.now) (addresses size (pieces_seen pieces.now)) → size_of (pieces_seen pieces.now) < 2 ^ 63
-        → result ≡ bytes_before (stands claims.now owner) (items size extents class (is_bar bar) (pieces_seen pieces.now)) }
+        → IsFront (stands claims.now owner) (items size extents class (is_bar bar) (pieces_seen pieces.now)) result }
 {
     let mut kept: u64 = 0;
     for piece in pieces {
         let front = piece_front(claims, parts, size, owner, bar, piece);
         kept = kept.saturating_add(front.bytes);
         if !front.whole {
-            return kept;
+            return Front {
+                bytes: kept,
+                whole: false,
+            };
         }
     }
-    kept
+    Front {
+        bytes: kept,
+        whole: true,
+    }
 }
 
 // Whether the first run of a list begins at an address.
@@ -184,22 +191,25 @@ fn bar_of(after: Addr, shape: &Shape) -> Option<Addr>
     }
 }
 
-// The bytes of its content that the owner of a shape keeps.
-fn kept_by<P: Parts>(
+// What the owner of a shape keeps of its content; an embedded one takes no block, so it is whole.
+fn shape_front<P: Parts>(
     claims: &Claims,
     parts: &P,
     size: u32,
     owner: u64,
     after: Addr,
     shape: &Shape,
-) -> u64
+) -> Front
     requires { 0 < size }
     ensures { (f : Frame) (v : Volume) (a : Addr) (e : Entry) → f.after ≡ after → v.size ≡ size → v.place ≡ P.place parts.now → IsShape v a e shape.now
-        → result ≡ bytes_before (stands claims.now owner) (items_of f v.size a e (list_for v a e)) }
+        → IsFront (stands claims.now owner) (items_of f v.size a e (list_for v a e)) result }
 {
     match shape.embedded {
-        Some(bytes) => bytes as u64,
-        None => kept_of(
+        Some(bytes) => Front {
+            bytes: bytes as u64,
+            whole: true,
+        },
+        None => list_front(
             claims,
             parts,
             size,
@@ -238,15 +248,17 @@ fn standing_of<P: Parts>(
     let Some(shape) = &node.shape else {
         return Standing {
             kept: 0,
+            whole: true,
             sound: true,
         };
     };
     let owner = owner_of(node.at);
-    let kept = kept_by(claims, parts, size, owner, after, shape);
+    let front = shape_front(claims, parts, size, owner, after, shape);
     let own = wins(claims, owner, node.at);
     Standing {
-        kept,
-        sound: is_sound(shape, kept, own),
+        kept: front.bytes,
+        whole: front.whole,
+        sound: is_sound(shape, front.bytes, own),
     }
 }
 

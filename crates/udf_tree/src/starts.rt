@@ -5,6 +5,7 @@ ghost use Rattle.udf_tree_model.specs.Frame.{Frame};
 ghost use Rattle.udf_tree.specs.Begin.{IsHolderAlone};
 
 use crate::arena::{Arena, Found};
+use crate::links::pointer_to;
 use std::alloc::{AllocError, Global};
 use udf_field::Addr;
 use udf_layer::Parts;
@@ -35,12 +36,11 @@ pub(crate) fn holder<P: Parts>(
     if parts.locate(file_set).is_none() {
         return Ok(arena);
     }
-    let mut targets = Vec::new(alloc);
-    targets.push(target)?;
+    let links = pointer_to(alloc, target)?;
     arena.push(Found {
         at: file_set,
         level: 0,
-        targets,
+        links,
         shape: None,
     })?;
     Ok(arena)

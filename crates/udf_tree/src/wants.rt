@@ -13,12 +13,12 @@ ghost use Rattle.udf_tree.specs.Wanted.{extent_wants, fixed_wants, run_want, run
 
 use crate::pieces::Piece;
 use crate::shape::Shape;
-use crate::stretch::Stretch;
 use std::alloc::AllocError;
 use udf_claims::Claims;
 use udf_entry::Run;
 use udf_field::Addr;
 use udf_layer::Parts;
+use udf_volume::Stretch;
 
 // How strong a want is: a lower class is stronger. Of the root its whole list is of the class ROOT.
 const FIXED: u8 = 0;
@@ -79,8 +79,8 @@ fn block_class(root: Addr, at: Addr, directory: bool) -> u8
     }
 }
 
-// Adds an owner's want of so many blocks from an address on, as far as its part has blocks.
-fn add_want<P: Parts>(
+/// Adds an owner's want of so many blocks from an address on, as far as its part has blocks.
+pub(crate) fn add_want<P: Parts>(
     claims: &mut Claims,
     parts: &P,
     owner: u64,
@@ -110,8 +110,8 @@ fn add_extent<P: Parts>(
     }
 }
 
-// Adds an owner's wants of the allocation extents of its list.
-fn add_extents<P: Parts>(
+/// Adds an owner's wants of the allocation extents of its list.
+pub(crate) fn add_extents<P: Parts>(
     claims: &mut Claims,
     parts: &P,
     owner: u64,
@@ -126,9 +126,9 @@ fn add_extents<P: Parts>(
     Ok(())
 }
 
-// Adds an owner's wants of a run's blocks; a hole has none.
+/// Adds an owner's wants of a run's blocks; a hole has none.
 #[tactic(auto, unfolding(crate::specs::Wanted::run_want), using(crate::proofs::Wanting::nothing_more))]
-fn add_run<P: Parts>(
+pub(crate) fn add_run<P: Parts>(
     claims: &mut Claims,
     parts: &P,
     size: u32,
@@ -170,8 +170,8 @@ fn add_blocks<P: Parts>(
     }
 }
 
-// Adds an owner's wants of the blocks of its list.
-fn add_runs<P: Parts>(
+/// Adds an owner's wants of the blocks of its list.
+pub(crate) fn add_runs<P: Parts>(
     claims: &mut Claims,
     parts: &P,
     size: u32,

@@ -1,54 +1,45 @@
-use Rattle.std.proofs.Common.{◌≡◌, Bool, None, Some, cond, refl, sym, ap, ◌∙◌, subst, arith}
+use Rattle.std.proofs.Common.{List, map, sym, ap, ◌∙◌, subst}
 use Rattle.udf_outside.specs.Stops.{bytes_of}
 use Rattle.udf_outside.specs.declared.bench.Role.TheVariants.{Image}
-use Rattle.udf_entry.proofs.Told.{size_bounds}
 use Rattle.udf_file_model.specs.Listing.{Volume, volume_of}
-use Rattle.udf_layer.specs.declared.missing.Missing.TheVariants as missing
 use Rattle.udf_tree_model.specs.Frame.{setting_of, tree_of}
-use Rattle.udf_tree_model.specs.Refused.{has_root}
-use Rattle.udf_tree.specs.Standing.{AreStanding}
-use Rattle.udf_tree.proofs.Rooting.{root_last}
+use Rattle.udf_tree_model.specs.Parent.{ordinary}
+use Rattle.udf_tree_model.proofs.Finding.{volume_within}
+use Rattle.udf_tree_model.proofs.Stating.{accepted_starts}
+use Rattle.udf_tree.specs.declared.held.Held.{Held}
+use Rattle.udf_tree.specs.declared.fitted.Selected.{Selected}
+use Rattle.udf_tree_model.specs.Laws.{HasSoundStarts}
+use Rattle.udf_tree_model.specs.Refused.{refusal}
+use Rattle.udf_volume.specs.Fixed.{stretches_over}
+use Rattle.udf_volume.specs.declared.stretch.Stretch.{Stretch}
+use Rattle.udf_tree.specs.Entries.{HasOutline}
+use Rattle.udf_tree.specs.Held.{AreHeld, AreHeldOf}
+use Rattle.udf_tree.specs.Fitted.{AreSelected}
+use Rattle.udf_tree.specs.Keeping.{AreKept}
+use Rattle.udf_tree.proofs.Rooting.{none_missing}
 use Rattle.udf_tree.proofs.entries.survey_entries.Goals as goal
 
-pub claims_of-requires : goal.claims_of-requires
-claims_of-requires g c = let low = (size_bounds c.args.size c.requires.size).0 in omega (arith, low)
-
-pub standings_of-requires : goal.standings_of-requires
-standings_of-requires g c = let low = (size_bounds c.args.size c.requires.size).0 in omega (arith, low)
-
-pub returns-then-root_stands-clause-found : goal.returns-then-root_stands-clause-found
-returns-then-root_stands-clause-found g c tells f o = c.in_ok-arena.ensures.found tells f o.starts
-
-pub returns-then-root_stands-clause-standings : goal.returns-then-root_stands-clause-standings
-returns-then-root_stands-clause-standings g c tells f o =
+pub returns-clause-entries : goal.returns-clause-entries
+returns-clause-entries g c tells f is set placed =
     let v : Volume = volume_of c.args.size (bytes_of Image (g.B.Bench.held c.args.bench.now)) (g.P.Parts.place c.args.parts.now) in
-    let found = c.in_ok-arena.ensures.found tells f o.starts in
-    let read = c.in_ok-arena.ensures.read tells f o.starts in
-    c.in_ok-standings.ensures.standings f v o.after_is refl refl read found
-    (c.in_ok-claims.ensures.winners f v (record { root_is = o.starts.root; fixed_are = o.fixed_are }) refl refl read found)
-
-pub returns-then-root_stands-clause-refusal : goal.returns-then-root_stands-clause-refusal
-returns-then-root_stands-clause-refusal g c tells f o set =
-    let v : Volume = volume_of c.args.size (bytes_of Image (g.B.Bench.held c.args.bench.now)) (g.P.Parts.place c.args.parts.now) in
-    let found = c.in_ok-arena.ensures.found tells f o.starts in
-    let read = c.in_ok-arena.ensures.read tells f o.starts in
-    let stand : AreStanding (setting_of f v) (tree_of f v) c.in_ok-arena.arena c.in_ok-standings.standings.items =
-    c.in_ok-standings.ensures.standings f v o.after_is refl refl read found
-    (c.in_ok-claims.ensures.winners f v (record { root_is = o.starts.root; fixed_are = o.fixed_are }) refl refl read found) in
-    let root : c.root_stands.result ≡ has_root f v =
-    c.root_stands.ensures f v o.starts.root set read found (subst (AreStanding (setting_of f v) (tree_of f v) c.in_ok-arena.arena) (sym c.deref.ensures.value) stand) in
-    root_last f v c.root_stands.result (c.in_ok-arena.ensures.refusal tells f o.starts set) root
-    ∙ ap (λ (b : Bool). cond b None (Some missing.RootDirectory)) c.if-root_stands.true
-
-pub returns-else-root_stands-clause-refusal : goal.returns-else-root_stands-clause-refusal
-returns-else-root_stands-clause-refusal g c tells f o set =
-    let v : Volume = volume_of c.args.size (bytes_of Image (g.B.Bench.held c.args.bench.now)) (g.P.Parts.place c.args.parts.now) in
-    let found = c.in_ok-arena.ensures.found tells f o.starts in
-    let read = c.in_ok-arena.ensures.read tells f o.starts in
-    let stand : AreStanding (setting_of f v) (tree_of f v) c.in_ok-arena.arena c.in_ok-standings.standings.items =
-    c.in_ok-standings.ensures.standings f v o.after_is refl refl read found
-    (c.in_ok-claims.ensures.winners f v (record { root_is = o.starts.root; fixed_are = o.fixed_are }) refl refl read found) in
-    let root : c.root_stands.result ≡ has_root f v =
-    c.root_stands.ensures f v o.starts.root set read found (subst (AreStanding (setting_of f v) (tree_of f v) c.in_ok-arena.arena) (sym c.deref.ensures.value) stand) in
-    root_last f v c.root_stands.result (c.in_ok-arena.ensures.refusal tells f o.starts set) root
-    ∙ ap (λ (b : Bool). cond b None (Some missing.RootDirectory)) c.if-root_stands.false
+    let outline : HasOutline f (record { file_set = c.args.files.now.at; root = c.args.files.now.root; system = c.args.files.now.system }) c.after.result c.stretches.result.now = record {
+      starts = record { file_set = is.file_set; root = is.root; system = is.system };
+      after_is = is.after_is ∙ sym c.after.ensures;
+      fixed_are = λ a. is.fixed_are a ∙ ap (λ (xs : List Stretch). stretches_over xs a) (sym c.stretches.ensures);
+    } in
+    let held : AreHeldOf f v c.in_ok-held.held.items = c.in_ok-held.ensures.held tells f outline in
+    let sound : HasSoundStarts (setting_of f v) (tree_of f v) = accepted_starts f v (none_missing (refusal f v) (c.in_ok-held.ensures.refusal tells f outline set)) placed in
+    let selected = c.in_ok-selected.ensures (setting_of f v) (tree_of f v) (volume_within f v) (subst (AreHeld (setting_of f v) (tree_of f v)) (sym c.deref.ensures.value) held.held) in
+    let selected_of : AreSelected (setting_of f v) (tree_of f v) c.in_ok-held.held.items c.in_ok-selected.selected.items =
+    subst (λ (hs : List Held). AreSelected (setting_of f v) (tree_of f v) hs c.in_ok-selected.selected.items) c.deref.ensures.value selected in
+    let P : List Held → List Selected → Type 0 = λ hs xs. AreSelected (setting_of f v) (tree_of f v) hs xs in
+    let kept = c.in_ok-kept.ensures (setting_of f v) (tree_of f v) (volume_within f v) sound (subst (AreHeld (setting_of f v) (tree_of f v)) (sym c.deref-2.ensures.value) held.held)
+    (subst (λ (hs : List Held). P hs c.deref-3.result.now) (sym c.deref-2.ensures.value) (subst (P c.in_ok-held.held.items) (sym c.deref-3.ensures.value) selected_of)) in
+    let ordinary_are = c.in_ok-ordinary.ensures f v is.root sound (subst (AreHeld (setting_of f v) (tree_of f v)) (sym c.deref-4.ensures.value) held.held)
+    (subst (λ (hs : List Held). P hs c.deref-5.result.now) (sym c.deref-4.ensures.value) (subst (P c.in_ok-held.held.items) (sym c.deref-5.ensures.value) selected_of)) in
+    record {
+      held = held;
+      selected = selected_of;
+      kept = subst (λ (hs : List Held). AreKept (setting_of f v) (tree_of f v) hs c.in_ok-kept.kept.items) c.deref-2.ensures.value kept;
+      ordinary_are = ordinary_are ∙ ap (map (λ (h : Held). ordinary f v h.at)) c.deref-4.ensures.value;
+    }

@@ -17,7 +17,7 @@ use Rattle.udf_tree.proofs.find.add.Goals as goal
 pub returns-in_ok-push-in-Entry-clause-adds : goal.returns-in_ok-push-in-Entry-clause-adds
 returns-in_ok-push-in-Entry-clause-adds g c f =
     let v : Volume = volume_of c.args.size (bytes_of Image (g.B.Bench.held c.args.bench.now)) (g.P.Parts.place c.args.parts.now) in
-    let node : Found = record { at = c.args.at; level = c.args.level; targets = c.in-Entry.targets; shape = Some c.in-Entry.shape } in
+    let node : Found = record { at = c.args.at; level = c.args.level; links = c.in-Entry.links; shape = Some c.in-Entry.shape } in
     let k : is_known c.args.at c.args.arena.now ≡ false = sym c.knows.ensures ∙ c.if-knows.false in
     let p : c.args.at.part < 65536 = omega arith in
     let b : c.args.at.block < 4294967296 = omega arith in
@@ -29,7 +29,7 @@ returns-in_ok-push-in-Entry-clause-adds g c f =
 pub returns-in_ok-push-in-Entry-clause-read : goal.returns-in_ok-push-in-Entry-clause-read
 returns-in_ok-push-in-Entry-clause-read g c tells f h a =
     let v : Volume = volume_of c.args.size (bytes_of Image (g.B.Bench.held c.args.bench.now)) (g.P.Parts.place c.args.parts.now) in
-    let node : Found = record { at = c.args.at; level = c.args.level; targets = c.in-Entry.targets; shape = Some c.in-Entry.shape } in
+    let node : Found = record { at = c.args.at; level = c.args.level; links = c.in-Entry.links; shape = Some c.in-Entry.shape } in
     let k : is_known c.args.at c.args.arena.now ≡ false = sym c.knows.ensures ∙ c.if-knows.false in
     let low = (size_bounds c.args.size c.requires.size).0 in
     let x = subst (Reads v c.args.at) c.in-Entry.is (c.in_ok-read_sought.ensures.sought tells) in
@@ -40,7 +40,7 @@ returns-in_ok-push-in-Entry-clause-read g c tells f h a =
 pub returns-in_ok-push-in-Entry-clause-seen : goal.returns-in_ok-push-in-Entry-clause-seen
 returns-in_ok-push-in-Entry-clause-seen g c tells f plain done ts h =
     let v : Volume = volume_of c.args.size (bytes_of Image (g.B.Bench.held c.args.bench.now)) (g.P.Parts.place c.args.parts.now) in
-    let node : Found = record { at = c.args.at; level = c.args.level; targets = c.in-Entry.targets; shape = Some c.in-Entry.shape } in
+    let node : Found = record { at = c.args.at; level = c.args.level; links = c.in-Entry.links; shape = Some c.in-Entry.shape } in
     let x = subst (Reads v c.args.at) c.in-Entry.is (c.in_ok-read_sought.ensures.sought tells) in
     subst (IsBeyond f v done (ts ++ c.args.at ∷ []) (spots c.push.new.self)) (sym c.with-in-Entry.ensures)
     (seen_entry f v done ts c.args.at x.0 c.args.arena.now c.push.new.self node c.args.beyond c.in-Entry.own x.1 x.4 refl c.in_ok-push-in-Entry.ensures.ok h)

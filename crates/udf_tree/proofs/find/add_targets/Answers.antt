@@ -9,6 +9,7 @@ use Rattle.udf_tree_model.specs.Frame.{Frame, places, tree_of}
 use Rattle.udf_tree.specs.declared.arena.Found.{Found}
 use Rattle.udf_tree_model.specs.Refused.{is_indirect}
 use Rattle.udf_tree.specs.Beyond.{IsBeyond}
+use Rattle.udf_tree.specs.Linked.{ends_of}
 use Rattle.udf_tree.specs.Order.{is_known}
 use Rattle.udf_tree.specs.Seen.{AreRead, HasHolder, IsWithin, spots}
 use Rattle.udf_tree.specs.Spot.{addresses, spot}
@@ -59,7 +60,7 @@ loop-target-preserved g c =
       levels = placed_adds (g.B.Bench.tells × HasHolder some v q) (tree_of some v) (places v) a (suc m.level) (spots q) (spots r) (adds some) (omega (arith, low, long, inv.grows, c.requires.inside)) inv.levels;
       grows = omega (arith, inv.grows, more);
       visits = λ tells f n e h.
-          let same : c.in_ok-targets.targets.items ≡ m.targets.items = search rules in
+          let same : c.in_ok-targets.targets.items ≡ ends_of m.links.items = search rules in
           let whole = targets_whole f v c.args.next c.args.arena.now m items c.requires.inside c.node-node.ensures.node (c.deref-target-items.ensures.value ∙ same) h in
           let read : HasHolder f v q → AreRead f v q → AreRead f v r = λ k b.
           subst (λ (x : Held). HasHolder f (vol x) q → AreRead f (vol x) q → AreRead f (vol x) r) inv.held (c.in_ok-seen.ensures.read tells f) k b in
@@ -84,7 +85,7 @@ returns-clause-visits g c tells f h =
     let v : Volume = volume_of c.args.size (bytes_of Image (g.B.Bench.held c.args.bench.now)) (g.P.Parts.place c.args.parts.now) in
     let m : Found = c.node-node.result.now in
     let items : List Addr = c.deref-target-items.result.now in
-    let same : c.in_ok-targets.targets.items ≡ m.targets.items = search rules in
+    let same : c.in_ok-targets.targets.items ≡ ends_of m.links.items = search rules in
     let whole = targets_whole f v c.args.next c.args.arena.now m items c.requires.inside c.node-node.ensures.node (c.deref-target-items.ensures.value ∙ same) h in
     going_ends f v c.args.next (spot m.at m.level) items c.loop-target.target-index c.loop-target.arena whole (omega (arith, c.loop-target-test.false)) (c.loop-target.invariant.visits tells f m c.node-node.ensures.node h)
 
@@ -94,7 +95,7 @@ returns-clause-seen g c tells f set h b =
     let inv = c.loop-target.invariant in
     let m : Found = c.node-node.result.now in
     let items : List Addr = c.deref-target-items.result.now in
-    let same : c.in_ok-targets.targets.items ≡ m.targets.items = search rules in
+    let same : c.in_ok-targets.targets.items ≡ ends_of m.links.items = search rules in
     let whole = targets_whole f v c.args.next c.args.arena.now m items c.requires.inside c.node-node.ensures.node (c.deref-target-items.ensures.value ∙ same) h in
     let all : take c.loop-target.target-index items ≡ items = take_all c.loop-target.target-index items (omega (arith, c.loop-target-test.false)) in
     seen_ends f v c.args.next (spot m.at m.level) (take c.loop-target.target-index items) c.args.arena.now c.loop-target.arena c.loop-target.seen (all ∙ whole) inv.front

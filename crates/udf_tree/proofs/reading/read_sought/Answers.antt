@@ -1,13 +1,16 @@
-use Rattle.std.proofs.Common.{◌≡◌, ℕ, ◌<◌, List, Some, length, arith, sym, ap, ◌∙◌}
+use Rattle.std.proofs.Common.{◌≡◌, ℕ, ◌<◌, List, Some, length, arith, refl, sym, ap, ◌∙◌, subst}
 use Rattle.udf_model.specs.Tag.{id_at, is_id}
 use Rattle.udf_outside.specs.Stops.{bytes_of, Held}
 use Rattle.udf_outside.specs.declared.bench.Role.TheVariants.{Image}
 use Rattle.udf_file_model.specs.Entry.{Entry, entry_of}
+use Rattle.udf_file_model.specs.Content.{block_at, block_by}
 use Rattle.udf_file_model.specs.Listing.{Volume, listing_at, volume_of}
 use Rattle.udf_entry.proofs.Told.{size_bounds}
 use Rattle.udf_entry.proofs.Extents.{in_image}
+use Rattle.udf_tree_model.specs.Link.{Link}
+use Rattle.udf_tree.specs.Linked.{AreLinks}
 use Rattle.udf_tree.specs.Target.{linking}
-use Rattle.udf_tree.proofs.Told.{targets_are, address_is, entry_unplaced, entry_there, indirect_there, not_indirect, reads_other, shape_is}
+use Rattle.udf_tree.proofs.Told.{links_are, address_is, entry_unplaced, entry_there, indirect_there, not_indirect, reads_other, listed_there}
 use Rattle.udf_tree.proofs.reading.read_sought.Goals as goal
 
 pub returns-in_default-clause-sought : goal.returns-in_default-clause-sought
@@ -46,16 +49,15 @@ returns-clause-sought g c tells =
     c.in_ok-list.ensures.list tells
     ∙ ap (λ (n : ℕ). listing_at (vol n (g.B.Bench.held c.read_block.new.bench)) c.args.at block) whole
     ∙ ap (λ (x : Held). listing_at (vol c.args.size x) c.args.at block) read in
+    let here : block ≡ block_at v c.args.at = c.in_ok-read_block.ensures.block tells ∙ sym (ap (block_by v.disk) (sym c.in-Some.ensures)) in
     let content : c.in_ok-content.content.items ≡ linking v c.args.at e =
     c.in_ok-content.ensures.content tells c.args.at e there (sym c.is_directory-directory.ensures)
     (c.in_ok-list.ensures.list tells ∙ ap (λ (x : Held). listing_at (vol (length block) x) c.args.at block) (sym c.in_ok-list.ensures.reads.held))
     ∙ ap (λ (n : ℕ). linking (vol n (g.B.Bench.held c.list_of.new.bench)) c.args.at e) whole
-    ∙ ap (λ (x : Held). linking (vol c.args.size x) c.args.at e) (c.in_ok-list.ensures.reads.held ∙ read) in
-    let counted : c.len.result ≡ length c.in_ok-content.content.items = omega (arith, c.len.ensures, c.in_ok-content.content.ok.0) in (
+    ∙ ap (λ (x : Held). linking (vol c.args.size x) c.args.at e) (c.in_ok-list.ensures.reads.held ∙ read) in (
       e,
       entry_there v c.args.at c.in-Some.sector block (address_is c.args.at p b) (sym c.in-Some.ensures) (c.in_ok-read_block.ensures.block tells) ∙ there,
-      c.in_ok-targets.ensures ∙ targets_are v c.args.at e c.stream.result c.deref.result.now c.stream.ensures (c.deref.ensures.value ∙ content),
-      shape_is v c.args.at block e c.in_ok-list.list (record { directory = c.is_directory-directory.result; content = c.len.result; embedded = c.embedded_in.result; pieces = c.in_ok-pieces_of.field-0 })
-          (omega (arith, low)) there list c.is_directory-directory.ensures (counted ∙ ap length content) c.embedded_in.ensures c.in_ok-pieces_of.ensures,
+      (let Q : List Link → Type 0 = λ fs. AreLinks fs c.in_ok-links.links.items in subst Q (links_are v c.args.at e c.stream.result c.deref-2.result.now c.stream.ensures (c.deref-2.ensures.value ∙ content)) c.in_ok-links.ensures),
+      c.in_ok-shape.ensures v refl here (listed_there v c.args.at block e c.in_ok-list.list there list) (c.deref.ensures.value ∙ content),
       c.of.ensures,
     )

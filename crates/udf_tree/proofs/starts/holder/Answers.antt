@@ -18,10 +18,9 @@ returns-then-is_none g c f v i s p =
 pub returns : goal.returns
 returns g c f v i s p =
     let some : is_some c.locate.result ≡ true = search rules in
-    let items : c.push.new.self.items ≡ c.in-Some.target ∷ [] = search rules in
     let part : c.args.file_set.part < 65536 = omega arith in
     let block : c.args.file_set.block < 4294967296 = omega arith in
-    let node : Found = record { at = c.args.file_set; level = 0; targets = c.push.new.self; shape = None } in
-    with_holder f v node c.in-Some.target c.push-2.new.self (s ∙ c.in-Some.is) i refl items refl (address_is c.args.file_set part block)
+    let node : Found = record { at = c.args.file_set; level = 0; links = c.in_ok-links.links; shape = None } in
+    with_holder f v node c.in-Some.target c.push.new.self (s ∙ c.in-Some.is) i refl c.in_ok-links.ensures refl (address_is c.args.file_set part block)
     (ap (λ (k : Addr → Option ℕ). is_some (k c.args.file_set)) p ∙ ap (λ (o : Option ℕ). is_some o) (sym c.locate.ensures) ∙ some)
-    (c.in_ok-push-2.ensures.ok ∙ ap (λ (l : List Found). l ++ node ∷ []) c.new-arena.ensures)
+    (c.in_ok-push.ensures.ok ∙ ap (λ (l : List Found). l ++ node ∷ []) c.new-arena.ensures)

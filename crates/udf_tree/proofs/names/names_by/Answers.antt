@@ -1,0 +1,23 @@
+use Rattle.std.proofs.Common.{◌≡◌, ℕ, List, ◌∷◌, [], arith, length, get_or, ap, subst}
+use Rattle.std.proofs.lemmas.List.{length-append, take_all}
+use Rattle.udf_tree.specs.Path.{AreNamed, texts_of}
+use Rattle.udf_tree.proofs.Naming.{read_at}
+use Rattle.udf_tree.proofs.Stepping.{named_more}
+use Rattle.udf_tree.proofs.names.names_by.Goals as goal
+
+pub loop-index-preserved : goal.loop-index-preserved
+loop-index-preserved c =
+    let j = c.loop-index.index-index in
+    let i = get_or c.args.indexes.now j 0 in
+    let is : i ≡ get_or c.args.indexes.now j i = read_at c.args.indexes.now j 0 i c.loop-index-test.true in
+    record {
+      many = let p = ap length c.in_ok-push.ensures.items in let was = c.loop-index.invariant.many in omega (arith, was, p, length-append c.loop-index.names.items (c.in_ok-name_for.field-0 ∷ []));
+      told = λ f v root file_set links ids k h.
+          named_more f v c.args.entries.now.held.items c.args.indexes.now j i c.loop-index.names.items c.push.new.self.items c.in_ok-name_for.field-0 c.loop-index-test.true is c.in_ok-push.ensures.items
+          (c.in_ok-name_for.ensures f v root file_set links ids k h) (c.loop-index.invariant.told f v root file_set links ids k h);
+    }
+
+pub returns-clause-names : goal.returns-clause-names
+returns-clause-names c f v root file_set links ids k h =
+    subst (λ (is : List ℕ). AreNamed f v c.args.entries.now.held.items is (texts_of c.loop-index.names.items)) (take_all c.loop-index.index-index c.args.indexes.now c.loop-index-test.false)
+    (c.loop-index.invariant.told f v root file_set links ids k h)
