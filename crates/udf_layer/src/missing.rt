@@ -23,6 +23,8 @@ pub enum ProfileItem {
     Unbuilt,
     /// A space table, an integrity table or freed space.
     SpaceTables,
+    /// A prevailing integrity descriptor that names a further extent of integrity descriptors (ECMA-167 3/10.10.4).
+    IntegrityChain,
     /// A file set that names a further extent of file sets (ECMA-167 4/14.1.17).
     FileSets,
     /// A found entry of another strategy than 4, or a link to an indirect entry (ECMA-167 4/14.6.2 and 4/14.7).

@@ -1,16 +1,19 @@
 -- Extents that lie in the image.
-use Rattle.std.proofs.Common.{◌≡◌, ℕ, ◌+◌, ◌*◌, ◌^◌, ◌<◌, ◌≤◌, arith, refl, subst, inl, ltb, true, false, List, [], ◌∷◌, length}
+use Rattle.std.proofs.Common.{◌≡◌, ℕ, ◌+◌, ◌*◌, ◌^◌, ◌<◌, ◌≤◌, arith, refl, sym, ap, subst, inl, ltb, true, false, List, [], ◌∷◌, length, Option, Some, None}
 use Rattle.std.proofs.Math.Nat.{mul-le-mul_right}
 use Rattle.std.proofs.lemmas.Bool.{and_parts, leb-true, ltb-true}
 use Rattle.udf_volume_model.specs.Sequence.{Descriptor}
 use Rattle.udf_volume_model.specs.Kept.{kept, extent_of, limit_of, has_id, is_complete}
-use Rattle.std.specs.Prelude.{option_map}
+use Rattle.std.proofs.lemmas.List.Quantifiers.{position-Some}
+use Rattle.std.specs.Prelude.{option_map, unwrap_or}
+use Rattle.udf_volume_model.specs.Prevailing.{prevailing_index}
+use Rattle.udf_volume_model.specs.Stated.{partition_number}
 use Rattle.udf_volume_model.specs.Maps.{is_base_lawful}
 use Rattle.udf_layer.specs.Tables.{map_seen}
 use Rattle.udf_volume.specs.Maps.{sparing_stated}
 use Rattle.udf_volume.specs.Seen.{anchor_seen, extent_seen, which_seen}
 use Rattle.udf_volume.specs.Led.{IsLed, led_seen}
-use Rattle.udf_volume.specs.Opened.{IsBounded, volume_by, which_of}
+use Rattle.udf_volume.specs.Opened.{IsBounded, sector_in, volume_by, which_of}
 use Rattle.udf_volume.specs.Spans.{span_by, opposite, kept_span, other_span}
 use Rattle.udf_volume.specs.declared.volume.Volume.{Volume}
 use Rattle.udf_volume.specs.declared.kept.Led.{Led}
@@ -74,6 +77,19 @@ nonempty limit [] e =
     absurd (let no : false ≡ true = parts.1 in cc)
 nonempty limit (d ∷ list) e = omega arith
 
+-- a prevailing partition descriptor stands in the image, and so does block 0
+prevailing_inside : (size blocks : ℕ) (led : Led) (subject : List ℕ) (found : Option ℕ) → IsLed size blocks led
+    → found ≡ prevailing_index 5 subject led.descriptors.items → unwrap_or (sector_in (led_seen led) 5 subject) 0 < blocks
+unfolding sector_in prevailing_index
+prevailing_inside size blocks led subject None is e =
+    let P : ℕ → Type 0 = λ n. n < blocks in
+    subst P (ap (λ (o : Option ℕ). unwrap_or (option_map (λ i. (kept (led_seen led)).start + i) o) 0) e) (omega (arith, is.place))
+prevailing_inside size blocks led subject (Some i) is e =
+    let P : ℕ → Type 0 = λ n. n < blocks in
+    let inside : i < length led.descriptors.items = (position-Some _ led.descriptors.items i (record { id = 0; body = [] }) (sym e)).0 in
+    subst P (ap (λ (o : Option ℕ). unwrap_or (option_map (λ i. (kept (led_seen led)).start + i) o) 0) e)
+    (omega (arith, descriptors_in size blocks led is, inside))
+
 -- what is stated of a kept sequence is bounded
 pub bounded : (size blocks : ℕ) (led : Led) (logical partition : List ℕ) → blocks < 2 ^ 32 → IsLed size blocks led
     → is_base_lawful (option_map map_seen (sparing_stated logical)) ≡ true → IsBounded size blocks (volume_by size blocks (led_seen led) logical partition)
@@ -90,10 +106,16 @@ bounded size blocks led logical partition small is spared = record {
   some = nonempty _ _ is.complete;
   short = fewer (limit_of size (anchor_seen led.anchor)) led.descriptors.items is.complete;
   descriptors_inside = by_which led.which (descriptors_in size blocks led is);
+  primary_inside =
+      let P : ℕ → Type 0 = λ n. n < blocks in
+      subst P (sector_is (led_seen led) 1 [] led.leading.primary _ is.leading.primary refl)
+      (omega (arith, descriptors_in size blocks led is, is.leading.primary_inside));
   logical_inside =
       let P : ℕ → Type 0 = λ n. n < blocks in
       subst P (sector_is (led_seen led) 6 [] led.leading.logical _ is.leading.logical refl)
       (omega (arith, descriptors_in size blocks led is, is.leading.logical_inside));
+  partition_inside =
+      prevailing_inside size blocks led (partition_number logical) (prevailing_index 5 (partition_number logical) led.descriptors.items) is refl;
 } where
   by_which : (w : Which) → (extent_of (which_seen w) (anchor_seen led.anchor)).start + length led.descriptors.items ≤ blocks
       → (span_by (which_of (which_seen w)) (volume_by size blocks (led_seen led) logical partition)).start + length led.descriptors.items ≤ blocks

@@ -139,4 +139,6 @@ pub record IsBounded (size blocks : ℕ) (volume : Volume) : Type 0 where
   pub some : 1 ≤ volume.count
   pub short : volume.count < limit_stated volume
   pub descriptors_inside : (kept_span volume).start + volume.count ≤ blocks
+  pub primary_inside : volume.pvd < blocks
   pub logical_inside : volume.lvd < blocks
+  pub partition_inside : volume.pd < blocks

@@ -6,7 +6,7 @@ use Rattle.udf_layer.specs.declared.missing.ProfileItem.TheVariants as item
 use Rattle.udf_layer.specs.declared.missing.LayerStop.{LayerStop}
 use Rattle.udf_layer.specs.declared.missing.LayerStop.TheVariants as stops
 
--- what a volume's description may ask; the other items are of its file set and entries
+-- what a volume's description may ask; the other items are of its integrity descriptor, its file set and its entries
 abbrev pub IsDescribed : ProfileItem → Type 0
 IsDescribed item.BlockSize = Unit {0}
 IsDescribed item.Domain = Unit {0}
@@ -15,6 +15,7 @@ IsDescribed item.VolumePointer = Unit {0}
 IsDescribed item.PartitionMaps = Unit {0}
 IsDescribed item.Unbuilt = Unit {0}
 IsDescribed item.SpaceTables = Unit {0}
+IsDescribed item.IntegrityChain = ⊥
 IsDescribed item.FileSets = ⊥
 IsDescribed item.Strategy = ⊥
 IsDescribed item.ExtendedDescriptors = ⊥
@@ -62,6 +63,7 @@ IsFurther item.VolumePointer = ⊥
 IsFurther item.PartitionMaps = ⊥
 IsFurther item.Unbuilt = ⊥
 IsFurther item.SpaceTables = ⊥
+IsFurther item.IntegrityChain = ⊥
 IsFurther item.FileSets = Unit {0}
 IsFurther item.Strategy = ⊥
 IsFurther item.ExtendedDescriptors = ⊥
