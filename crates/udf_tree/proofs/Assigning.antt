@@ -47,13 +47,13 @@ all_less a [] h b m = absurd m
 all_less a (x ∷ xs) h b (inl e) = ap (is_lower a) e ∙ lower_from a x h.0
 all_less a (x ∷ xs) h b (inr m) = all_less a xs h.1 b m
 
-sorted_ascend : (xs : List Addr) → IsStrictlySortedBy addr_cmp xs → Ascending xs
+pub sorted_ascend : (xs : List Addr) → IsStrictlySortedBy addr_cmp xs → Ascending xs
 unfolding IsStrictlySortedBy
 sorted_ascend [] h = tt
 sorted_ascend (x ∷ xs) h = (all_less x xs h.0, sorted_ascend xs h.1)
 
 -- ascending lists with the same members are the same
-same_ascending : (xs ys : List Addr) → Ascending xs → Ascending ys → ((a : Addr) → Member a xs → Member a ys) → ((a : Addr) → Member a ys → Member a xs) → xs ≡ ys
+pub same_ascending : (xs ys : List Addr) → Ascending xs → Ascending ys → ((a : Addr) → Member a xs → Member a ys) → ((a : Addr) → Member a ys → Member a xs) → xs ≡ ys
 same_ascending [] [] h k f g = refl
 same_ascending [] (y ∷ ys) h k f g = absurd (g y (inl refl))
 same_ascending (x ∷ xs) [] h k f g = absurd (f x (inl refl))

@@ -44,7 +44,7 @@ use Rattle.udf_tree.proofs.Tallying.{directory_marks, no_parent}
 use Rattle.udf_tree.proofs.Totals.{StandsAmong, marks_all, none_sum, other, sum_held, take_out}
 
 -- ---- counts
-count_same : {X : Type 0} (p q : X → Bool) (xs : List X) → ((x : X) → Member x xs → p x ≡ q x) → count_by p xs ≡ count_by q xs
+pub count_same : {X : Type 0} (p q : X → Bool) (xs : List X) → ((x : X) → Member x xs → p x ≡ q x) → count_by p xs ≡ count_by q xs
 count_same p q [] f = refl
 count_same p q (x ∷ xs) f =
     let here : cond {A = ℕ} (p x) 1 0 ≡ cond (q x) 1 0 = ap (λ b. cond {A = ℕ} b 1 0) (f x (inl refl)) in
@@ -53,7 +53,7 @@ count_same p q (x ∷ xs) f =
     let right = count_one q x xs in
     omega (arith, here, rest, left, right)
 
-count_map : {X Y : Type 0} (p : Y → Bool) (g : X → Y) (xs : List X) → count_by p (map g xs) ≡ count_by (λ x. p (g x)) xs
+pub count_map : {X Y : Type 0} (p : Y → Bool) (g : X → Y) (xs : List X) → count_by p (map g xs) ≡ count_by (λ x. p (g x)) xs
 count_map p g [] = refl
 count_map p g (x ∷ xs) =
     let rest = count_map p g xs in

@@ -36,7 +36,8 @@ use Rattle.udf_tree.specs.declared.shape.Shape.{Shape}
 use Rattle.udf_tree.specs.Beyond.{HoldsFileSet}
 use Rattle.udf_tree.specs.Held.{IsHeld, IsHeldOf, held_spots}
 use Rattle.udf_tree.specs.Keeping.{AreKeptOf, IsKeeping, IsKeptBy}
-use Rattle.udf_tree.specs.Nodes.{AreNodes, AreSurveyed, IsNode, IsNumbering, StandOnce, is_kept_entry, is_numbered, is_whole, is_whole_by, node_address, node_addresses, numbered, numbered_at}
+use Rattle.udf_tree_model.specs.Ordinary.{is_kept_entry}
+use Rattle.udf_tree.specs.Nodes.{AreNodes, AreSurveyed, IsNode, IsNumbering, StandOnce, is_numbered, is_whole, is_whole_by, node_address, node_addresses, numbered, numbered_at}
 use Rattle.udf_tree.specs.Shape.{IsShaped}
 use Rattle.udf_tree.specs.Spot.{ComeOnce, addresses, spot}
 use Rattle.udf_tree.proofs.ByIndex.{found_stands, member_at, test_at}

@@ -1,12 +1,14 @@
 -- What is judged of links, by what is kept of found entries.
-use Rattle.std.proofs.Common.{◌≡◌, ◌⊎◌, ℕ, zero, suc, ◌+◌, ◌<◌, ◌≤◌, List, [], ◌∷◌, ◌++◌, length, map, take, get_or, nat_eq, Bool, true, false, not, ◌&&◌, ◌||◌, cond, Option, Some, None, refl, sym, ap, ◌∙◌, subst, inl, inr, arith}
-use Rattle.std.specs.Prelude.{is_some, slice_get}
+use Rattle.std.proofs.Common.{◌≡◌, ◌⊎◌, ℕ, ◌+◌, ◌<◌, ◌≤◌, List, [], ◌∷◌, ◌++◌, length, map, take, get_or, nat_eq, Bool, true, false, not, ◌&&◌, ◌||◌, cond, Option, Some, None, refl, sym, ap, ◌∙◌, subst, inl, inr, arith}
+use Rattle.std.specs.Prelude.{is_some, option_map, slice_get}
 use Rattle.std.specs.BTreeMap.{BTreeMap}
+use Rattle.std.specs.List.Sorted.{IsStrictlySortedBy}
+use Rattle.std.specs.Map.{keys_of}
 use Rattle.std.specs.Ordering.{is_eq, nat_cmp}
 use Rattle.std.proofs.lemmas.Bool.{false≢true}
 use Rattle.std.proofs.lemmas.Bool.Decides.{nat_tests}
 use Rattle.std.proofs.lemmas.List.{length-map, map-append, take_more}
-use Rattle.std.proofs.lemmas.Option.{same_Some, slice_get_past}
+use Rattle.std.proofs.lemmas.Option.{get_or_from_slice_get, same_Some, slice_get-map, slice_get_past}
 use Rattle.udf_field.specs.declared.address.Addr.{Addr}
 use Rattle.udf_file_model.specs.Listing.{Volume}
 use Rattle.udf_tree_model.specs.Among.{Member}
@@ -29,8 +31,8 @@ use Rattle.udf_tree.specs.declared.node.Node.{Node}
 use Rattle.udf_tree.specs.Fitted.{at_by, at_of}
 use Rattle.udf_tree.specs.Held.{AreHeld, IsHeld, IsHeldOf}
 use Rattle.udf_tree.specs.Indexed.{IsIndex}
-use Rattle.udf_tree.specs.Judged.{AreJudged, AreJudgedOf, IsJudged, entries_of, is_lawful_target, is_sound_target, judged, judged_by, judged_in, verdict, verdict_by, verdict_in}
-use Rattle.udf_tree.specs.Linked.{Outline, earliers, earliers_after, outline_of, outline_seen}
+use Rattle.udf_tree.specs.Judged.{AreJudged, AreJudgedOf, IsJudged, entries_of, is_lawful_target, is_sound_target, judged, judged_by, judged_links, judged_in, verdict, verdict_by, verdict_in}
+use Rattle.udf_tree.specs.Linked.{Outline, earliers, outline_of, outline_seen}
 use Rattle.udf_tree.specs.Nodes.{AreSurveyed, node_addresses}
 use Rattle.udf_tree.specs.Stays.{Tells}
 use Rattle.udf_tree.specs.Spot.{spot}
@@ -38,6 +40,7 @@ use Rattle.udf_tree.specs.Selects.{is_rank_at}
 use Rattle.udf_tree.proofs.ByIndex.{member_at}
 use Rattle.udf_tree.proofs.Enrolling.{starts}
 use Rattle.udf_tree.proofs.Choosing.{held_for}
+use Rattle.udf_tree.proofs.Placing.{all_judged, earliers_long, links_in}
 use Rattle.udf_tree.proofs.Staying.{entry_is}
 use Rattle.udf_tree.proofs.Surveying.{heads}
 
@@ -54,33 +57,45 @@ module _ (f : Frame) (v : Volume) where
     sound_target = ap (λ (b : Bool). b && is_some h.shape) i.sound_is ∙ ap (λ (b : Bool). sound s t h.at && b) (sym (entry_is f v h.at h.shape o.shape))
 
     module _ (d : Addr) (place : ℕ) (here : found s t h.at ≡ true) where
-      lawful_is : is_lawful_target s t d place h.at ≡ (not (h.directory && is_some h.shape) || (not h.is_start && is_rank_at d place (chosen s t h.at)))
-      unfolding is_lawful_target
+      rank : Bool
+      rank = is_rank_at d place (chosen s t h.at)
+
+      lawful_is : is_lawful_target s t d place h.at ≡ (not (h.directory && is_some h.shape) || (h.sound && (not h.is_start && rank)))
+      unfolding is_lawful_target rank
       lawful_is =
-          ap (λ b. not (b && ((node_at t h.at).directory && is_entry s t h.at)) || (not (s.start h.at) && is_rank_at d place (chosen s t h.at))) here
-          ∙ ap (λ b. not ((node_at t h.at).directory && b) || (not (s.start h.at) && is_rank_at d place (chosen s t h.at))) (entry_is f v h.at h.shape o.shape)
-          ∙ ap (λ b. not (b && is_some h.shape) || (not (s.start h.at) && is_rank_at d place (chosen s t h.at))) (sym i.directory)
-          ∙ ap (λ b. not (h.directory && is_some h.shape) || (not b && is_rank_at d place (chosen s t h.at))) (sym i.start)
+          ap (λ b. not (b && ((node_at t h.at).directory && is_entry s t h.at)) || (sound s t h.at && (not (s.start h.at) && rank))) here
+          ∙ ap (λ b. not ((node_at t h.at).directory && b) || (sound s t h.at && (not (s.start h.at) && rank))) (entry_is f v h.at h.shape o.shape)
+          ∙ ap (λ b. not (b && is_some h.shape) || (sound s t h.at && (not (s.start h.at) && rank))) (sym i.directory)
+          ∙ ap (λ b. not (h.directory && is_some h.shape) || (sound s t h.at && (not b && rank))) (sym i.start)
+          ∙ ap (λ b. not (h.directory && is_some h.shape) || (b && (not h.is_start && rank))) (sym i.sound_is)
 
       pub lawful_file : h.directory ≡ false → true ≡ is_lawful_target s t d place h.at
-      lawful_file e = sym (lawful_is ∙ ap (λ b. not (b && is_some h.shape) || (not h.is_start && is_rank_at d place (chosen s t h.at))) e)
+      lawful_file e = sym (lawful_is ∙ ap (λ b. not (b && is_some h.shape) || (h.sound && (not h.is_start && rank))) e)
 
       pub lawful_shapeless : is_some h.shape ≡ false → true ≡ is_lawful_target s t d place h.at
       lawful_shapeless e = sym (lawful_is ∙ by h.directory e)
         where
-          by : (b : Bool) → is_some h.shape ≡ false → (not (b && is_some h.shape) || (not h.is_start && is_rank_at d place (chosen s t h.at))) ≡ true
-          by true q = ap (λ x. not x || (not h.is_start && is_rank_at d place (chosen s t h.at))) q
+          by : (b : Bool) → is_some h.shape ≡ false → (not (b && is_some h.shape) || (h.sound && (not h.is_start && rank))) ≡ true
+          by true q = ap (λ x. not x || (h.sound && (not h.is_start && rank))) q
           by false q = refl
 
-      lawful_tied : h.directory ≡ true → is_some h.shape ≡ true → (not h.is_start && is_rank_at d place (chosen s t h.at)) ≡ is_lawful_target s t d place h.at
+      lawful_tied : h.directory ≡ true → is_some h.shape ≡ true → (h.sound && (not h.is_start && rank)) ≡ is_lawful_target s t d place h.at
       lawful_tied e k =
-          sym (lawful_is ∙ ap (λ b. not (b && is_some h.shape) || (not h.is_start && is_rank_at d place (chosen s t h.at))) e ∙ ap (λ b. not b || (not h.is_start && is_rank_at d place (chosen s t h.at))) k)
+          sym (lawful_is ∙ ap (λ b. not (b && is_some h.shape) || (h.sound && (not h.is_start && rank))) e ∙ ap (λ b. not b || (h.sound && (not h.is_start && rank))) k)
+
+      no_link : (b : Bool) → false ≡ (b && false)
+      no_link true = refl
+      no_link false = refl
 
       pub lawful_start : h.directory ≡ true → is_some h.shape ≡ true → h.is_start ≡ true → false ≡ is_lawful_target s t d place h.at
-      lawful_start e k b = sym (ap (λ x. not x && is_rank_at d place (chosen s t h.at)) b) ∙ lawful_tied e k
+      lawful_start e k b = no_link h.sound ∙ sym (ap (λ x. h.sound && (not x && rank)) b) ∙ lawful_tied e k
 
-      pub lawful_chosen : h.directory ≡ true → is_some h.shape ≡ true → h.is_start ≡ false → is_rank_at d place (chosen s t h.at) ≡ is_lawful_target s t d place h.at
-      lawful_chosen e k b = sym (ap (λ x. not x && is_rank_at d place (chosen s t h.at)) b) ∙ lawful_tied e k
+      pub lawful_unsound : h.directory ≡ true → is_some h.shape ≡ true → h.sound ≡ false → false ≡ is_lawful_target s t d place h.at
+      lawful_unsound e k b = sym (ap (λ x. x && (not h.is_start && rank)) b) ∙ lawful_tied e k
+
+      pub lawful_chosen : h.directory ≡ true → is_some h.shape ≡ true → h.is_start ≡ false → h.sound ≡ true → is_rank_at d place (chosen s t h.at) ≡ is_lawful_target s t d place h.at
+      unfolding rank
+      lawful_chosen e k b q = sym (ap (λ x. x && (not h.is_start && rank)) q ∙ ap (λ x. not x && rank) b) ∙ lawful_tied e k
 
   -- nothing is found at an address without a position
   module _ (hs : List Held) (held : AreHeld s t hs) (position : Addr → Option ℕ) (index : IsIndex hs position) (a : Addr) (none : position a ≡ None) where
@@ -101,14 +116,14 @@ module _ (f : Frame) (v : Volume) where
 
     pub lawful_lost : (d : Addr) (place : ℕ) → true ≡ is_lawful_target s t d place a
     unfolding is_lawful_target
-    lawful_lost d place = sym (ap (λ b. not (b && ((node_at t a).directory && is_entry s t a)) || (not (s.start a) && is_rank_at d place (chosen s t a))) lost)
+    lawful_lost d place = sym (ap (λ b. not (b && ((node_at t a).directory && is_entry s t a)) || (sound s t a && (not (s.start a) && is_rank_at d place (chosen s t a)))) lost)
 
 -- ---- one link after another
-pub same_verdict : (s : Setting) (t : Tree) (d : Addr) (l : Link) (b c : Bool) → b ≡ is_sound_target s t l.target → c ≡ is_lawful_target s t d l.place l.target → record { sound = b; earlier = l.earlier; chosen = c } ≡ verdict_by s t d l
+pub same_verdict : (s : Setting) (t : Tree) (d : Addr) (l : Link) (b c : Bool) → b ≡ is_sound_target s t l.target → c ≡ is_lawful_target s t d l.place l.target → record { target = l.target; sound = b; earlier = l.earlier; chosen = c } ≡ verdict_by s t d l
 same_verdict s t d l b c e h = ap (λ (x : Bool). made x c) e ∙ ap (λ (x : Bool). made (is_sound_target s t l.target) x) h
   where
     made : Bool → Bool → Verdict
-    made x y = record { sound = x; earlier = l.earlier; chosen = y }
+    made x y = record { target = l.target; sound = x; earlier = l.earlier; chosen = y }
 
 -- of links in a row the first with a place is judged
 abbrev pub either : Option Verdict → Option Verdict → Option Verdict
@@ -189,9 +204,9 @@ module _ (f : Frame) (v : Volume) (root file_set : Addr) (e : Entries) (links id
   pub surveyed_tells : Tells f v e.held.items e.selected.items
   surveyed_tells = record { held = k.entries.held; selected = k.entries.selected }
 
-  pub judged_there : (i : ℕ) (h : Held) → slice_get e.held.items i ≡ Some h → (es : List (ℕ × Verdict)) → ((q : ℕ) → verdict_in es q ≡ judged_by (setting_of f v) (tree_of f v) h.at h.links.items q) → IsJudged f v e.held.items i es
+  pub judged_there : (i : ℕ) (h : Held) → slice_get e.held.items i ≡ Some h → (es : List (ℕ × Verdict)) → IsStrictlySortedBy nat_cmp (keys_of es) → ((q : ℕ) → verdict_in es q ≡ judged_by (setting_of f v) (tree_of f v) h.at h.links.items q) → IsJudged f v e.held.items i es
   unfolding judged
-  judged_there i h there es by_links = record { each = λ a at own q. subst (λ (b : Addr). verdict_in es q ≡ judged f v b q) (place a at) (is a at own q) }
+  judged_there i h there es sorted by_links = record { each = λ a at own. all_judged f v a es sorted (λ q. subst (λ (b : Addr). verdict_in es q ≡ judged f v b q) (place a at) (is a at own q)) }
     where
       place : (a : Addr) → at_of e.held.items i ≡ Some a → h.at ≡ a
       place a at = same_Some h.at a (sym (ap at_by there) ∙ at)
@@ -204,7 +219,7 @@ module _ (f : Frame) (v : Volume) (root file_set : Addr) (e : Entries) (links id
           by_links q ∙ judged_same (setting_of f v) (tree_of f v) h.at (kept_links (setting_of f v) (tree_of f v) h.at) (earliers (kept_links (setting_of f v) (tree_of f v) h.at)) h.links.items ls.all ls.earlier q
 
 pub none_judged : (f : Frame) (v : Volume) (hs : List Held) (i : ℕ) (es : List (ℕ × Verdict)) → length hs ≤ i → IsJudged f v hs i es
-none_judged f v hs i es over = record { each = λ a at own q. absurd (past (ap at_by (slice_get_past hs i over)) at) }
+none_judged f v hs i es over = record { each = λ a at own. absurd (past (ap at_by (slice_get_past hs i over)) at) }
   where
     past : {a : Addr} → at_of hs i ≡ None → at_of hs i ≡ Some a → ⊥
     past n s = cc
@@ -226,27 +241,30 @@ judged_more f v hs indexes j i out new m low is push one was = record {
 
 -- of nodes
 pub judged_nodes : (f : Frame) (v : Volume) (hs : List Held) (is : List ℕ) (ess : List (List (ℕ × Verdict))) (ns : List Node) → AreJudgedOf f v hs is ess → map (at_of hs) is ≡ map Some (node_addresses ns)
-    → ((n : Node) → Member n ns → kept (setting_of f v) (tree_of f v) n.at ≡ true) → (j : ℕ) (n : Node) → slice_get ns j ≡ Some n → (q : ℕ) → verdict_in (get_or ess j []) q ≡ judged f v n.at q
-judged_nodes f v hs [] ess [] a e h j n there q = cc
-judged_nodes f v hs [] ess (m ∷ ns) a e h j n there q = cc
-judged_nodes f v hs (i ∷ is) ess [] a e h j n there q = cc
-judged_nodes f v hs (i ∷ is) [] (m ∷ ns) a e h j n there q = absurd a
-judged_nodes f v hs (i ∷ is) (es ∷ ess) (m ∷ ns) a e h zero n there q =
+    → ((n : Node) → Member n ns → kept (setting_of f v) (tree_of f v) n.at ≡ true) → ess ≡ map (λ n. judged_links f v n.at) ns
+judged_nodes f v hs [] [] [] a e h = refl
+judged_nodes f v hs [] (es ∷ ess) ns a e h = absurd a
+judged_nodes f v hs [] [] (m ∷ ns) a e h = cc
+judged_nodes f v hs (i ∷ is) ess [] a e h = cc
+judged_nodes f v hs (i ∷ is) [] (m ∷ ns) a e h = absurd a
+judged_nodes f v hs (i ∷ is) (es ∷ ess) (m ∷ ns) a e h =
     let p = heads (at_of hs i) (Some m.at) (map (at_of hs) is) (map Some (node_addresses ns)) e in
-    a.0.each m.at p.0 (h m (inl refl)) q ∙ ap (λ (x : Node). judged f v x.at q) (same_Some m n there)
-judged_nodes f v hs (i ∷ is) (es ∷ ess) (m ∷ ns) a e h (suc j) n there q =
-    let p = heads (at_of hs i) (Some m.at) (map (at_of hs) is) (map Some (node_addresses ns)) e in
-    judged_nodes f v hs is ess ns a.1 p.1 (λ x y. h x (inr y)) j n there q
+    ap (λ (x : List (ℕ × Verdict)). x ∷ ess) (a.0.each m.at p.0 (h m (inl refl)))
+    ∙ ap (λ (xs : List (List (ℕ × Verdict))). judged_links f v m.at ∷ xs) (judged_nodes f v hs is ess ns a.1 p.1 (λ x y. h x (inr y)))
+
+-- of each by its number
+pub judged_each : (f : Frame) (v : Volume) (ns : List Node) (ess : List (List (ℕ × Verdict))) → ess ≡ map (λ n. judged_links f v n.at) ns
+    → (i : ℕ) (n : Node) → slice_get ns i ≡ Some n → (q : ℕ) → verdict_in (get_or ess i []) q ≡ judged f v n.at q
+judged_each f v ns ess e i n there q =
+    let of : Node → List (ℕ × Verdict) = λ m. judged_links f v m.at in
+    ap (λ (xs : List (List (ℕ × Verdict))). verdict_in (get_or xs i []) q) e
+    ∙ ap (λ (es : List (ℕ × Verdict)). verdict_in es q) (get_or_from_slice_get (map of ns) i (of n) [] (slice_get-map of ns i ∙ ap (option_map of) there))
+    ∙ links_in f v n.at q
 
 pub entries_many : (ms : List (BTreeMap ℕ Verdict)) → length (entries_of ms) ≡ length ms
 entries_many ms = length-map ms (λ (m : BTreeMap ℕ Verdict). m.entries)
 
 -- ---- each kept link is judged
-earliers_long : (before fs : List model.Link) → length (earliers_after before fs) ≡ length fs
-unfolding earliers_after
-earliers_long before [] = refl
-earliers_long before (f ∷ fs) = ap (λ (n : ℕ). suc n) (earliers_long (before ++ f ∷ []) fs)
-
 judged_has : (s : Setting) (t : Tree) (d : Addr) (fs : List model.Link) (os : List (Option ℕ)) (l : model.Link) → length os ≡ length fs → Member l fs → is_some (judged_in s t d fs os l.place) ≡ true
 judged_has s t d [] os l n m = absurd m
 judged_has s t d (f ∷ fs) [] l n m = absurd (omega (arith, n))

@@ -79,7 +79,7 @@ written_length f v h e s new m =
     ∙ ap (λ (b : Bool). cond b (length (mended_content f v h.at)) (min e.information (kept_length (setting_of f v) (tree_of f v) h.at))) (sym k)
 
 -- the content of a directory up to less than the good length
-content_length : (v : Volume) (a : Addr) (e : Entry) (n c : ℕ) → is_directory e ≡ true → n ≤ good_length v a e → c ≡ length (linking v a e) → length (content_to v e (list_for v a e) n) ≡ min n c
+pub content_length : (v : Volume) (a : Addr) (e : Entry) (n c : ℕ) → is_directory e ≡ true → n ≤ good_length v a e → c ≡ length (linking v a e) → length (content_to v e (list_for v a e) n) ≡ min n c
 unfolding content_to content
 content_length v a e n c d l k = let x = to n in let y = k ∙ to (good_length v a e) in omega (arith, x, y, l)
   where

@@ -60,6 +60,11 @@ pub mod Enrolling
 pub mod Surveying
 pub mod Streaming
 pub mod LinkWants
+pub mod Placing
 pub mod Judging
 pub mod Stepping
 pub mod Climbing
+pub mod Sequencing
+pub mod Measuring
+pub mod Filing
+pub mod Noting

@@ -16,7 +16,7 @@ use Rattle.udf_tree.specs.Nodes.{AreWanted}
 use Rattle.udf_tree.specs.Shape.{IsShaped}
 use Rattle.udf_tree.proofs.ByIndex.{member_at}
 
-count_there : (f : Frame) (v : Volume) (hs : List Held) (cs : List Count) → AreCountsOf f v hs cs → (i : ℕ) (h : Held) → slice_get hs i ≡ Some h → is_some h.shape ≡ true
+pub count_there : (f : Frame) (v : Volume) (hs : List Held) (cs : List Count) → AreCountsOf f v hs cs → (i : ℕ) (h : Held) → slice_get hs i ≡ Some h → is_some h.shape ≡ true
     → (c : Count) × (slice_get cs i ≡ Some c) × IsCount f v h.at c
 count_there f v [] [] a i h e t = cc
 count_there f v [] (c ∷ cs) a i h e t = absurd a

@@ -64,7 +64,7 @@ one_named stream above (g ∷ (h ∷ gs)) = ap (λ b. b && list_all (λ fid. str
     more : nat_eq (length (g ∷ (h ∷ gs))) 1 ≡ false
     more = grind (arith, nat_tests)
 
-order_is : (size : ℕ) (stream : Bool) (above : Addr) (content : List ℕ) → content_holds size stream above content ≡ names_parent stream above (only_parent size content)
+pub order_is : (size : ℕ) (stream : Bool) (above : Addr) (content : List ℕ) → content_holds size stream above content ≡ names_parent stream above (only_parent size content)
 unfolding content_holds only_parent is_lawful
 order_is size stream above content = by (bytes_eq content (packed fs)) (list_all is_lawful_kind fs)
   where
@@ -84,19 +84,19 @@ order_is size stream above content = by (bytes_eq content (packed fs)) (list_all
     by false b = refl
 
 -- ---- the places of links differ
-first_below : (x : ℕ) (xs : List ℕ) → AllPairs (λ a b. a < b) (x ∷ xs) → (y : ℕ) → Member y xs → x < y
+pub first_below : (x : ℕ) (xs : List ℕ) → AllPairs (λ a b. a < b) (x ∷ xs) → (y : ℕ) → Member y xs → x < y
 first_below x xs h y m =
     let r = contains_of xs y m in
     subst (λ (z : ℕ). x < z) r.2 (h 0 (suc r.0) y (omega arith) (omega (arith, r.1)))
 
-rest_ascends : (x : ℕ) (xs : List ℕ) → AllPairs (λ a b. a < b) (x ∷ xs) → AllPairs (λ a b. a < b) xs
+pub rest_ascends : (x : ℕ) (xs : List ℕ) → AllPairs (λ a b. a < b) (x ∷ xs) → AllPairs (λ a b. a < b) xs
 rest_ascends x xs h i j d l m = h (suc i) (suc j) d (omega (arith, l)) (omega (arith, m))
 
-abbrev places : List model.Link → List ℕ
+abbrev pub places : List model.Link → List ℕ
 places fs = map (λ f. f.place) fs
 
 -- a place of the links of FIDs is that of one of them
-place_among : (q : Placed → Bool) (ps : List Placed) (n : ℕ) → Member n (places (map fid_link (filter q ps))) → (p : Placed) × Member p ps × (n ≡ suc p.0)
+pub place_among : (q : Placed → Bool) (ps : List Placed) (n : ℕ) → Member n (places (map fid_link (filter q ps))) → (p : Placed) × Member p ps × (n ≡ suc p.0)
 place_among q ps n m =
     let x = member_of_map (λ (f : model.Link). f.place) (map fid_link (filter q ps)) n m in
     let y = member_of_map fid_link (filter q ps) x.0 x.1 in

@@ -93,7 +93,7 @@ no_some : {X : Type 0} (x : X) → None ≡ Some x → ⊥
 no_some x e = cc
 
 module _ (f : Frame) (v : Volume) (root file_set : Addr) (e : Entries) (links ids : List ℕ) (k : AreSurveyed f v root file_set e links ids) where
-  steps_are : (i : ℕ) (a : Addr) → at_of e.held.items i ≡ Some a → kept (setting_of f v) (tree_of f v) a ≡ true → map (step_seen e.held.items) (fitted_by (slice_get e.selected.items i)) ≡ map step_of (fitted (setting_of f v) (tree_of f v) a)
+  pub steps_are : (i : ℕ) (a : Addr) → at_of e.held.items i ≡ Some a → kept (setting_of f v) (tree_of f v) a ≡ true → map (step_seen e.held.items) (fitted_by (slice_get e.selected.items i)) ≡ map step_of (fitted (setting_of f v) (tree_of f v) a)
   steps_are i a at own =
       let s = setting_of f v in
       let t = tree_of f v in

@@ -1,8 +1,7 @@
 -- What is told of each node by the index of its found entry.
-use Rattle.std.proofs.Common.{◌≡◌, ◌<◌, ℕ, zero, suc, List, [], ◌∷◌, length, map, Bool, true, false, not, ◌&&◌, cond, Option, Some, None, refl, sym, ap, ◌∙◌, subst, inl, inr}
+use Rattle.std.proofs.Common.{◌≡◌, ℕ, zero, suc, List, [], ◌∷◌, map, Bool, true, false, not, ◌&&◌, cond, Option, Some, None, refl, sym, ap, ◌∙◌, subst, inl, inr}
 use Rattle.std.specs.Prelude.{is_some, option_map, slice_get}
 use Rattle.std.proofs.lemmas.Bool.{false≢true}
-use Rattle.std.proofs.lemmas.List.{length-map}
 use Rattle.std.proofs.lemmas.Option.{same_Some}
 use Rattle.udf_field.specs.declared.address.Addr.{Addr}
 use Rattle.udf_file_model.specs.Listing.{Volume}
@@ -15,15 +14,13 @@ use Rattle.udf_tree.specs.declared.contents.MendedContent.{MendedContent}
 use Rattle.udf_tree.specs.declared.entries.Entries.{Entries}
 use Rattle.udf_tree.specs.declared.held.Held.{Held}
 use Rattle.udf_tree.specs.declared.keeping.Keeping.{Keeping}
-use Rattle.udf_tree.specs.declared.judge.Verdict.{Verdict}
 use Rattle.udf_tree.specs.declared.node.Node.{Node}
-use Rattle.udf_tree.specs.declared.node.NodeId.{NodeId}
 use Rattle.udf_tree.specs.Contents.{AreContents, AreContentsOf, IsContent, IsContentOf}
 use Rattle.udf_tree.specs.Entries.{AreEntries}
 use Rattle.udf_tree.specs.Fitted.{at_of}
 use Rattle.udf_tree.specs.Keeping.{IsKeeping}
-use Rattle.udf_tree.specs.Nodes.{AreNodes, IsNode, IsNumbering, node_addresses}
-use Rattle.udf_tree.specs.Survey.{AreIndexed, bytes_at, bytes_by, pointed_by, pointed_from, wanted_content}
+use Rattle.udf_tree.specs.Nodes.{AreNodes, IsNode, node_addresses}
+use Rattle.udf_tree.specs.Survey.{bytes_at, bytes_by, pointed_by, pointed_from, wanted_content}
 use Rattle.udf_tree.proofs.Enrolling.{and_both, is_shaped, kept_parts}
 use Rattle.udf_tree.proofs.Indexing.{held_at, member_of_get}
 use Rattle.udf_tree.proofs.Mending.{keeping_there}
@@ -113,19 +110,3 @@ module _ (f : Frame) (v : Volume) (e : Entries) (entries : AreEntries f v e) whe
 pub pointers_wanted : (f : Frame) (v : Volume) (e : Entries) (is : List ℕ) (ns : List Node) → map (at_of e.held.items) is ≡ map Some (node_addresses ns)
     → map (λ i. pointed_by f v (at_of e.held.items i)) is ≡ map (λ n. option_map Some (pointed_from f v n.at)) ns
 pointers_wanted f v e is ns same = told_by_nodes (λ i. pointed_by f v (at_of e.held.items i)) (λ n. option_map Some (pointed_from f v n.at)) e.held.items is ns same (λ i n m b. ap (pointed_by f v) b)
-
--- ---- as many of each
-pub indexed : (hs : List Held) (ats whole : List Addr) (ns : List Node) (number : Addr → Option NodeId) (is : List ℕ) (ps : List (Option NodeId)) (ess : List (List (ℕ × Verdict))) (names : List (List ℕ)) → ats ≡ whole → node_addresses ns ≡ whole → IsNumbering ats number → length ats < 4294967296
-    → map (at_of hs) is ≡ map Some whole → length ps ≡ length is → length ess ≡ length is → length names ≡ length is → AreIndexed ns number is ps ess names
-indexed hs ats whole ns number is ps ess names e h numbering few same many all named =
-    let numbers : List Addr → Type 0 = λ xs. IsNumbering xs number in
-    let nodes : length ns ≡ length whole = sym (length-map ns (λ (n : Node). n.at)) ∙ ap (λ (xs : List Addr). length xs) h in
-    let one : length is ≡ length whole = sym (length-map is (at_of hs)) ∙ ap (λ (xs : List (Option Addr)). length xs) same ∙ length-map whole Some in
-    record {
-      numbering = subst numbers (e ∙ sym h) numbering;
-      few = subst (λ (n : ℕ). n < 4294967296) (ap (λ (xs : List Addr). length xs) e ∙ sym nodes) few;
-      same = one ∙ sym nodes;
-      as_many = many ∙ one ∙ sym nodes;
-      judged_all = all ∙ one ∙ sym nodes;
-      named_all = named ∙ one ∙ sym nodes;
-    }

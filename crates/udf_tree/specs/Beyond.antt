@@ -99,6 +99,7 @@ IsOfEntry item.VolumePointer = ⊥
 IsOfEntry item.PartitionMaps = ⊥
 IsOfEntry item.Unbuilt = ⊥
 IsOfEntry item.SpaceTables = ⊥
+IsOfEntry item.IntegrityChain = ⊥
 IsOfEntry item.FileSets = ⊥
 
 -- a refusal for entries, or none

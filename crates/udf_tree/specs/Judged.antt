@@ -24,14 +24,14 @@ use Rattle.udf_tree.specs.Selects.{is_rank_at}
 unfoldable pub is_sound_target : Setting → Tree → Addr → Bool
 is_sound_target s t a = sound s t a && is_entry s t a
 
--- it is no directory that is found, or this is its chosen link; a start has none
+-- it is no directory that is found, or a sound one whose chosen link this is; a start has none
 unfoldable pub is_lawful_target : Setting → Tree → Addr → ℕ → Addr → Bool
 is_lawful_target s t d place a =
-    not (found s t a && ((node_at t a).directory && is_entry s t a)) || (not (s.start a) && is_rank_at d place (chosen s t a))
+    not (found s t a && ((node_at t a).directory && is_entry s t a)) || (sound s t a && (not (s.start a) && is_rank_at d place (chosen s t a)))
 
 -- what is judged of the link of a holder at a place that leads to an address, where the first of its name before it stands there
 abbrev pub verdict : Setting → Tree → Addr → ℕ → Addr → Option ℕ → Verdict
-verdict s t d place a earlier = record { sound = is_sound_target s t a; earlier = earlier; chosen = is_lawful_target s t d place a }
+verdict s t d place a earlier = record { target = a; sound = is_sound_target s t a; earlier = earlier; chosen = is_lawful_target s t d place a }
 
 -- of a link of a holder
 abbrev pub verdict_by : Setting → Tree → Addr → Link → Verdict
@@ -52,6 +52,16 @@ judged_in s t d (f ∷ fs) (o ∷ os) q = cond (nat_eq f.place q) (Some (verdict
 unfoldable pub judged : Frame → Volume → Addr → ℕ → Option Verdict
 judged f v a q = judged_in (setting_of f v) (tree_of f v) a (kept_links (setting_of f v) (tree_of f v) a) (earliers (kept_links (setting_of f v) (tree_of f v) a)) q
 
+-- of links of the definitions, each with the first of its name before it, the place and what is judged
+abbrev pub judged_all : Setting → Tree → Addr → List model.Link → List (Option ℕ) → List (ℕ × Verdict)
+judged_all s t d [] os = []
+judged_all s t d (f ∷ fs) [] = []
+judged_all s t d (f ∷ fs) (o ∷ os) = (f.place, verdict s t d f.place (target_of f.says) o) ∷ judged_all s t d fs os
+
+-- of the kept links of an entry, in order
+unfoldable pub judged_links : Frame → Volume → Addr → List (ℕ × Verdict)
+judged_links f v a = judged_all (setting_of f v) (tree_of f v) a (kept_links (setting_of f v) (tree_of f v) a) (earliers (kept_links (setting_of f v) (tree_of f v) a))
+
 -- what stands in a map of verdicts at a place, by its entries
 abbrev pub verdict_in : List (ℕ × Verdict) → ℕ → Option Verdict
 verdict_in es q = lookup (is_at (nat_cmp q)) es
@@ -61,7 +71,7 @@ entries_of ms = map (λ (m : BTreeMap ℕ Verdict). m.entries) ms
 
 -- of the kept entry that stands at an index among the found ones, the links are judged
 pub record IsJudged (f : Frame) (v : Volume) (hs : List Held) (i : ℕ) (es : List (ℕ × Verdict)) : Type 0 where
-  pub each : (a : Addr) → at_of hs i ≡ Some a → kept (setting_of f v) (tree_of f v) a ≡ true → (q : ℕ) → verdict_in es q ≡ judged f v a q
+  pub each : (a : Addr) → at_of hs i ≡ Some a → kept (setting_of f v) (tree_of f v) a ≡ true → es ≡ judged_links f v a
 
 abbrev pub AreJudgedOf : Frame → Volume → List Held → List ℕ → List (List (ℕ × Verdict)) → Type 0
 AreJudgedOf f v hs [] [] = Unit {0}

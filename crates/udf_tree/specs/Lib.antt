@@ -39,3 +39,8 @@ pub mod Accepted
 pub mod Judged
 pub mod Path
 pub mod Rise
+pub mod Ordered
+pub mod Stated
+pub mod KeptContents
+pub mod Files
+pub mod Notes

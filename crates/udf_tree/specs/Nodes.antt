@@ -1,5 +1,5 @@
 -- Kept entries by their numbers.
-use Rattle.std.specs.Prelude.{◌≡◌, ℕ, Bool, true, false, not, ◌&&◌, cond, is_some, get_or, slice_get, List, [], ◌∷◌, map, Option, Some, None}
+use Rattle.std.specs.Prelude.{◌≡◌, ℕ, Bool, true, false, ◌&&◌, cond, is_some, get_or, slice_get, List, [], ◌∷◌, map, Option, Some, None}
 use Rattle.std.specs.List.{list_any, list_all}
 use Rattle.udf_field.specs.declared.address.Addr.{Addr}
 use Rattle.udf_file_model.specs.Address.{same_addr}
@@ -8,9 +8,9 @@ use Rattle.udf_file_model.specs.Listing.{Volume, is_good_for}
 use Rattle.udf_tree_model.specs.Among.{Member}
 use Rattle.udf_tree_model.specs.Counts.{wanted_id, wanted_links}
 use Rattle.udf_tree_model.specs.Found.{level}
-use Rattle.udf_tree_model.specs.Frame.{Frame, entry_at, is_holder, setting_of, tree_of}
-use Rattle.udf_tree_model.specs.Kept.{kept}
+use Rattle.udf_tree_model.specs.Frame.{Frame, entry_at, setting_of, tree_of}
 use Rattle.udf_tree_model.specs.Node.{node_at}
+use Rattle.udf_tree_model.specs.Ordinary.{is_kept_entry}
 use Rattle.udf_tree_model.specs.Parent.{ordinary, parent}
 use Rattle.udf_tree_model.specs.Refused.{refusal}
 use Rattle.udf_tree_model.specs.Stated.{IsFileSetPlaced}
@@ -22,10 +22,6 @@ use Rattle.udf_tree.specs.declared.node.Node.{Node}
 use Rattle.udf_tree.specs.declared.node.NodeId.{NodeId}
 use Rattle.udf_tree.specs.Beyond.{HoldsFileSet}
 use Rattle.udf_tree.specs.Entries.{AreEntries}
-
--- kept, and not the holder of the pointer to the system stream directory
-unfoldable pub is_kept_entry : Frame → Volume → Addr → Bool
-is_kept_entry f v a = kept (setting_of f v) (tree_of f v) a && not (is_holder f v a)
 
 abbrev pub is_whole_by : Frame → Volume → Addr → Option Entry → Bool
 is_whole_by f v a None = false

@@ -8,7 +8,7 @@ ghost use Rattle.udf_tree_model.specs.Frame.{Frame, setting_of, tree_of};
 ghost use Rattle.udf_tree_model.specs.Laws.{HasSoundStarts};
 ghost use Rattle.udf_tree.specs.Beyond.{HoldsFileSet};
 ghost use Rattle.udf_tree.specs.Contents.{AreContents};
-ghost use Rattle.udf_tree.specs.Counts.{AreCounts};
+ghost use Rattle.udf_tree.specs.Counts.{AreCounts, count_in};
 ghost use Rattle.udf_tree.specs.Fitted.{AreSelected};
 ghost use Rattle.udf_tree.specs.Held.{AreHeldOf};
 ghost use Rattle.udf_tree.specs.Keeping.{AreKept};
@@ -176,4 +176,30 @@ pub(crate) fn counts(
     let parents = named_parents(alloc, root, file_set, held, kept, contents)?;
     let positions = positions_of(alloc, held)?;
     count_all(alloc, &positions, selected, &parents)
+}
+
+// The count at an index; no links where there is none.
+fn count_at(counts: &[Count], i: usize) -> Count
+    ensures { result ≡ count_in counts.now i }
+{
+    if i < counts.len() {
+        counts[i]
+    } else {
+        Count { low: 0, high: 0 }
+    }
+}
+
+/// The counts of the found entries at these indexes, in order.
+pub(crate) fn counts_at(
+    alloc: Global,
+    counts: &[Count],
+    indexes: &[usize],
+) -> Result<Vec<Count>, AllocError>
+    ensures { IfOk result (λ those. those.items ≡ map (count_in counts.now) indexes.now) }
+{
+    let mut those = Vec::new(alloc);
+    for index in indexes {
+        those.push(count_at(counts, *index))?;
+    }
+    Ok(those)
 }

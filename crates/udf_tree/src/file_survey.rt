@@ -19,6 +19,7 @@ ghost use Rattle.udf_tree.specs.Survey.{IsSurvey};
 use crate::after::claims_after;
 use crate::contents::{MendedContent, mended_contents};
 use crate::counts::counts;
+use crate::dues::Dues;
 use crate::entries::{Entries, survey_entries};
 use crate::entry_identifiers::identifiers;
 use crate::link_counts::link_counts;
@@ -63,8 +64,9 @@ fn survey_held<P: Parts>(
     )?;
     let links = link_counts(alloc, held, &counts)?;
     let ids = identifiers(alloc, files.root, held, &entries.ordinary)?;
+    let dues = Dues { counts, links, ids };
     survey_of(
-        alloc, files.root, files.at, entries, &links, &ids, contents, claims,
+        alloc, files.root, files.at, entries, &dues, contents, claims,
     )
 }
 

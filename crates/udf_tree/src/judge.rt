@@ -1,6 +1,8 @@
 // What is judged of the links of kept entries.
 ghost use Rattle.std.specs.Prelude.{◌≡◌, ℕ, true, Some, IfOk, List, length};
 ghost use Rattle.std.specs.BTreeMap.{get};
+ghost use Rattle.std.specs.List.Sorted.{IsStrictlySortedBy};
+ghost use Rattle.std.specs.Map.{keys_of};
 ghost use Rattle.std.specs.Ordering.{nat_cmp};
 ghost use Rattle.udf_field.specs.declared.address.Addr.{Addr};
 ghost use Rattle.udf_file_model.specs.Listing.{Volume};
@@ -26,21 +28,24 @@ use std::alloc::{AllocError, Global};
 use std::collections::BTreeMap;
 use udf_field::Addr;
 
-/// What is judged of a live FID of a kept directory.
+/// What is judged of a link of a kept entry: of its pointer, or of a live FID.
 #[derive(Clone, Copy, Debug, PartialEq, Eq)]
 pub struct Verdict {
+    /// Where it leads.
+    pub target: Addr,
     /// Whether it names a sound entry.
     pub sound: bool,
     /// The offset of the first live FID of the same name, where that stands before this one.
     pub earlier: Option<u64>,
-    /// Whether it names no directory, or is the chosen link to it; a start has none.
+    /// Whether it names no directory, or is the chosen link to it; a start and an unsound directory have none.
     pub chosen: bool,
 }
 
 /// Verdicts by the places of links.
 pub(crate) type Verdicts = BTreeMap<u64, Verdict>;
 
-// Whether a found entry is no directory with a block of its own, or the link of a holder at a place the chosen one to it.
+// Whether a found entry is no directory with a block of its own, or a sound one to which the link of a holder at a place is the
+// chosen one.
 fn is_lawful(held: &[Held], target: &Held, choice: Option<Choice>, holder: Addr, place: u64) -> bool
     ensures { (f : Frame) (v : Volume) → IsHeld (setting_of f v) (tree_of f v) target.now → IsHeldOf f v target.now → found (setting_of f v) (tree_of f v) target.now.at ≡ true
         → (target.now.directory ≡ true → IsChoice held.now (λ d. d.level) (chosen_link (setting_of f v) (tree_of f v) target.now.at) choice)
@@ -53,6 +58,9 @@ fn is_lawful(held: &[Held], target: &Held, choice: Option<Choice>, holder: Addr,
         return true;
     }
     if target.is_start {
+        return false;
+    }
+    if !target.sound {
         return false;
     }
     is_link(held, choice, holder, place)
@@ -72,6 +80,7 @@ fn verdict_of(
 {
     let Some(&i) = positions.get(&link.target) else {
         return Verdict {
+            target: link.target,
             sound: false,
             earlier: link.earlier,
             chosen: true,
@@ -79,6 +88,7 @@ fn verdict_of(
     };
     let target = &held[i];
     Verdict {
+        target: link.target,
         sound: is_sound_entry(target),
         earlier: link.earlier,
         chosen: is_lawful(held, target, chosen_at(selected, i), holder, link.place),
@@ -94,7 +104,8 @@ fn verdicts_of(
     entry: &Held,
 ) -> Result<Verdicts, AllocError>
     requires { IsIndex held.now (get addr_cmp positions.now) }
-    ensures { (f : Frame) (v : Volume) → Tells f v held.now selected.now
+    ensures ordered { IfOk result (λ verdicts. IsStrictlySortedBy nat_cmp (keys_of verdicts.entries)) }
+    ensures verdicts { (f : Frame) (v : Volume) → Tells f v held.now selected.now
         → IfOk result (λ verdicts. (q : ℕ) → get nat_cmp verdicts q ≡ judged_by (setting_of f v) (tree_of f v) entry.now.at entry.now.links.items q) }
 {
     let mut verdicts = BTreeMap::new(alloc);

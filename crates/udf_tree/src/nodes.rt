@@ -38,8 +38,8 @@ fn id_at(ids: &[u64], i: usize) -> u64
     if i < ids.len() { ids[i] } else { 0 }
 }
 
-// Whether the entry at an index is ordinary.
-fn is_ordinary(ordinary: &[bool], i: usize) -> bool
+/// Whether the entry at an index is ordinary.
+pub(crate) fn is_ordinary(ordinary: &[bool], i: usize) -> bool
     ensures { result ≡ get_or ordinary.now i false }
 {
     i < ordinary.len() && ordinary[i]

@@ -1,10 +1,12 @@
 // The numbers of kept entries.
-ghost use Rattle.std.specs.Prelude.{◌≡◌, ◌<◌, ◌^◌, None, Some, IfOk, get_or, length, map};
+ghost use Rattle.std.specs.Prelude.{◌≡◌, ◌<◌, ◌^◌, None, Some, IfOk, List, get_or, length, map};
 ghost use Rattle.std.specs.BTreeMap.{get};
+ghost use Rattle.udf_field.specs.declared.address.Addr.{Addr};
 ghost use Rattle.udf_tree.specs.Fitted.{at_of};
 ghost use Rattle.udf_tree.specs.declared.node.NodeId.{NodeId};
 ghost use Rattle.udf_tree.specs.Nodes.{IsNumbering, is_numbered, numbered};
 ghost use Rattle.udf_tree.specs.Order.{addr_cmp};
+ghost use Rattle.udf_tree.specs.Ordered.{AreInOrder};
 
 use crate::held::Held;
 use crate::keeping::Keeping;
@@ -96,4 +98,11 @@ pub(crate) fn numbers_of(alloc: Global, addresses: &[Addr]) -> Result<Numbers, A
         numbers.insert(*at, number_at(i)?)?;
     }
     Ok(numbers)
+}
+
+/// The numbers in the order of the addresses.
+pub(crate) fn in_order(alloc: Global, numbers: &Numbers) -> Result<Vec<NodeId>, AllocError>
+    ensures { (addresses : List Addr) → IsNumbering addresses (get addr_cmp numbers.now) → IfOk result (λ order. AreInOrder addresses order.items) }
+{
+    numbers.values().copied().collect(alloc)
 }

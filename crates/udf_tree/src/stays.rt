@@ -108,8 +108,8 @@ fn links_stay(held: &[Held], positions: &Positions, selected: &[Selected], holde
     true
 }
 
-// Whether what the parent FIDs of a directory's content tell is in order under this parent.
-fn parents_stay(only: Option<Addr>, is_stream: bool, above: Addr) -> bool
+/// Whether what the parent FIDs of a directory's content tell is in order under this parent.
+pub(crate) fn parents_stay(only: Option<Addr>, is_stream: bool, above: Addr) -> bool
     ensures { result ≡ names_parent is_stream above only }
 {
     match only {

@@ -1,14 +1,15 @@
 // The survey of a volume's files as one value.
-ghost use Rattle.std.specs.Prelude.{◌≡◌, ◌<◌, ◌+◌, ◌^◌, ℕ, [], true, is_some, false, None, Some, IfOk, IfSome, MatchOption, get_or, length, map, slice_get};
+ghost use Rattle.std.specs.Prelude.{◌≡◌, ◌<◌, All, ◌+◌, ◌^◌, ℕ, [], true, is_some, false, None, Some, IfOk, IfSome, MatchOption, get_or, length, map, slice_get};
 ghost use Rattle.std.specs.BTreeMap.{get};
 ghost use Rattle.std.specs.List.{list_any};
-ghost use Rattle.udf_claims.specs.Winner.{claimed};
+ghost use Rattle.udf_claims.specs.Winner.{IsNextClaimed, IsUnclaimedFrom, claimed};
 ghost use Rattle.udf_field.specs.declared.address.Addr.{Addr};
 ghost use Rattle.udf_file_model.specs.Address.{same_addr};
 ghost use Rattle.udf_file_model.specs.Listing.{Volume};
 ghost use Rattle.udf_tree_model.specs.Frame.{Frame};
 ghost use Rattle.udf_tree.specs.After.{TellsTaken};
 ghost use Rattle.udf_tree.specs.Contents.{AreContents};
+ghost use Rattle.udf_tree.specs.Counts.{AreCounts};
 ghost use Rattle.udf_tree.specs.Judged.{verdict_in};
 ghost use Rattle.udf_tree.specs.Nodes.{AreSurveyed, node_addresses};
 ghost use Rattle.udf_tree.specs.Order.{addr_cmp};
@@ -16,17 +17,23 @@ ghost use Rattle.udf_tree.specs.Path.{IsPath};
 ghost use Rattle.udf_tree.specs.Survey.{IsSurvey, bytes_at};
 
 use crate::contents::MendedContent;
+use crate::counts::Count;
+use crate::dues::Dues;
 use crate::entries::Entries;
-use crate::judge::{Verdict, Verdicts, judge_all};
-use crate::names::names_of;
+use crate::files::files_of;
+use crate::judge::Verdict;
+use crate::kept_contents::KeptContent;
 use crate::node::{Node, NodeId};
 use crate::nodes::nodes_of;
-use crate::numbers::{Numbers, kept_addresses, kept_indexes, number_of, numbers_of};
+use crate::notes::{Notes, notes_of};
+use crate::numbers::{Numbers, in_order, kept_addresses, kept_indexes, number_of, numbers_of};
 use crate::path::{Path, names_up, node_of};
-use crate::pointers::{pointers_of, system_of};
+use crate::pointers::system_of;
+use crate::stated::Stated;
 use std::alloc::{AllocError, Global};
+use std::collections::BTreeMap;
 use std::marker::Model;
-use udf_claims::Claims;
+use udf_claims::{Claimed, Claims};
 use udf_field::Addr;
 
 /// What is kept of a volume's files, and what the mend makes of it.
@@ -40,14 +47,13 @@ pub struct Survey {
     /// Of each found entry what is written in place of its content.
     contents: Vec<Option<MendedContent>>,
     claims: Claims,
-    /// Of each node the number of its stream directory.
-    pointers: Vec<Option<NodeId>>,
+    notes: Notes,
+    /// The numbers of nodes in the order of their addresses.
+    order: Vec<NodeId>,
     /// The number of the system stream directory.
     system: Option<NodeId>,
-    /// Of each node what is judged of its links.
-    verdicts: Vec<Verdicts>,
-    /// Of each node the name of the link that keeps it.
-    names: Vec<Vec<u8>>,
+    /// How many FIDs of ordinary directories name files.
+    files_named: u64,
 }
 
 impl Model for Survey {
@@ -56,13 +62,14 @@ impl Model for Survey {
     ghost use Rattle.udf_tree.specs.Judged.{entries_of};
     ghost use Rattle.udf_tree.specs.Order.{addr_cmp};
     ghost use Rattle.udf_tree.specs.Path.{texts_of};
-    ghost use Rattle.udf_tree.specs.Survey.{AreIndexed, View, bytes_at};
+    ghost use Rattle.udf_tree.specs.Notes.{AreIndexed};
+    ghost use Rattle.udf_tree.specs.Survey.{View, bytes_at};
 
     ghost Value = { View };
 
-    ghost view = { λ s. record { nodes = s.nodes.items; root = s.root; contents = map (bytes_at s.contents.items) s.indexes.items; runs = s.claims; pointers = s.pointers.items; system = s.system; verdicts = entries_of s.verdicts.items; names = texts_of s.names.items } };
+    ghost view = { λ s. record { nodes = s.nodes.items; order = s.order.items; root = s.root; contents = map (bytes_at s.contents.items) s.indexes.items; runs = s.claims; pointers = s.notes.pointers.items; system = s.system; files_named = s.files_named; verdicts = entries_of s.notes.verdicts.items; names = texts_of s.notes.names.items; stated = s.notes.stated.items; counts = s.notes.counts.items; kept_contents = s.notes.contents.items } };
 
-    ghost invariant = { λ s. AreIndexed s.nodes.items (get addr_cmp s.numbers) s.indexes.items s.pointers.items (entries_of s.verdicts.items) (texts_of s.names.items) };
+    ghost invariant = { λ s. AreIndexed s.nodes.items (get addr_cmp s.numbers) s.indexes.items s.order.items s.notes };
 }
 
 // The bytes that are written in place of the content of the found entry at an index.
@@ -101,6 +108,14 @@ impl Survey {
         self.root
     }
 
+    /// The numbers of the kept entries in the order of their addresses.
+    pub fn in_order(&self) -> &[NodeId]
+        ensures order { result.now ≡ self.now.order }
+        ensures within { All (λ id. id.0 < length self.now.nodes) result.now }
+    {
+        &self.order
+    }
+
     /// The number of the kept entry at an address, where there is one.
     pub fn find(&self, at: Addr) -> Option<NodeId>
         ensures { MatchOption result (list_any (same_addr at) (node_addresses self.now.nodes) ≡ false) (λ id. slice_get (node_addresses self.now.nodes) id.0 ≡ Some at) }
@@ -124,7 +139,7 @@ impl Survey {
         requires { id.0 < length self.now.nodes }
         ensures { result ≡ get_or self.now.pointers id.0 None }
     {
-        self.pointers[id.0 as usize]
+        self.notes.pointers[id.0 as usize]
     }
 
     /// The number of the system stream directory, where it is kept.
@@ -134,6 +149,13 @@ impl Survey {
         self.system
     }
 
+    /// How many fitted FIDs of ordinary directories name entries that are no directories (UDF 2.2.6.4).
+    pub fn files_named(&self) -> u64
+        ensures { result ≡ self.now.files_named }
+    {
+        self.files_named
+    }
+
     /// What is judged of the live FID at an offset, in bytes, of the kept content of a directory. Takes log n in its FIDs.
     pub fn judge(&self, id: NodeId, offset: u64) -> Verdict
         requires id { id.0 < length self.now.nodes }
@@ -141,9 +163,10 @@ impl Survey {
         requires there { is_some (verdict_in (get_or self.now.verdicts id.0 []) (offset + 1)) ≡ true }
         ensures { verdict_in (get_or self.now.verdicts id.0 []) (offset + 1) ≡ Some result }
     {
-        match self.verdicts[id.0 as usize].get(&(offset + 1)) {
+        match self.notes.verdicts[id.0 as usize].get(&(offset + 1)) {
             Some(verdict) => *verdict,
             None => Verdict {
+                target: Addr { part: 0, block: 0 },
                 sound: true,
                 earlier: None,
                 chosen: true,
@@ -151,12 +174,44 @@ impl Survey {
         }
     }
 
+    /// What is judged of each link of a kept entry, by its place: 0 of the pointer, and one more than its offset of a live FID.
+    pub fn links(&self, id: NodeId) -> &BTreeMap<u64, Verdict>
+        requires { id.0 < length self.now.nodes }
+        ensures { slice_get self.now.verdicts id.0 ≡ Some result.now.entries }
+    {
+        &self.notes.verdicts[id.0 as usize]
+    }
+
     /// The name of the link that keeps an entry: empty for a stream directory, and for the root.
     pub fn step_name(&self, id: NodeId) -> &[u8]
         requires { id.0 < length self.now.nodes }
         ensures { slice_get self.now.names id.0 ≡ Some result.now }
     {
-        &self.names[id.0 as usize]
+        &self.notes.names[id.0 as usize]
+    }
+
+    /// What a kept entry states of itself.
+    pub fn stated(&self, id: NodeId) -> Stated
+        requires { id.0 < length self.now.nodes }
+        ensures { slice_get self.now.stated id.0 ≡ Some result }
+    {
+        self.notes.stated[id.0 as usize]
+    }
+
+    /// The least and the greatest link count that a kept entry may state.
+    pub fn counts(&self, id: NodeId) -> Count
+        requires { id.0 < length self.now.nodes }
+        ensures { slice_get self.now.counts id.0 ≡ Some result }
+    {
+        self.notes.counts[id.0 as usize]
+    }
+
+    /// The content of a kept directory up to the kept length; None of another entry.
+    pub fn content(&self, id: NodeId) -> Option<KeptContent>
+        requires { id.0 < length self.now.nodes }
+        ensures { slice_get self.now.kept_contents id.0 ≡ Some result }
+    {
+        self.notes.contents[id.0 as usize]
     }
 
     /// The names from the root to a kept entry. A step to a stream directory has an empty name. Takes as long as the path.
@@ -167,8 +222,16 @@ impl Survey {
         let Some(root) = node_of(&self.nodes, self.root) else {
             return Err(AllocError);
         };
-        let upward = names_up(alloc, &self.nodes, &self.names, root.at, id)?;
+        let upward = names_up(alloc, &self.nodes, &self.notes.names, root.at, id)?;
         Ok(Path { upward })
+    }
+
+    /// The next claimed blocks from an address on, in the order of addresses: all that follow on one another. A placed address is
+    /// claimed where it is fixed, or a kept entry claims it after its mend. A walk goes on from where they end.
+    pub fn next_claimed(&self, at: Addr) -> Option<Claimed>
+        ensures { MatchOption result (IsUnclaimedFrom self.now.runs at) (IsNextClaimed self.now.runs at) }
+    {
+        self.claims.claimed_from(at)
     }
 
     /// Whether a placed address is fixed, or a kept entry claims it after its mend.
@@ -183,30 +246,37 @@ impl Survey {
 }
 
 /// The survey of a volume's files: of the found entries, what is kept of them, what is written in place of the contents of
-/// directories, and what is claimed after that. `root` is the root, `file_set` the address of the file set; `links` has the
-/// wanted link count of each found entry, and `ids` its identifier. Takes n log n in the entries.
+/// directories, and what is claimed after that. `root` is the root, `file_set` the address of the file set. Takes n log n in the
+/// entries and their links.
 pub(crate) fn survey_of(
     alloc: Global,
     root: Addr,
     file_set: Addr,
     entries: &Entries,
-    links: &[u16],
-    ids: &[u64],
+    dues: &Dues,
     contents: Vec<Option<MendedContent>>,
     claims: Claims,
 ) -> Result<Survey, AllocError>
-    ensures { (f : Frame) (v : Volume) → AreSurveyed f v root file_set entries.now links.now ids.now → AreContents f v entries.now.held.items entries.now.kept.items contents.items → TellsTaken f v claims
-        → IfOk result (IsSurvey f v) }
+    ensures { (f : Frame) (v : Volume) → 0 < v.size → AreSurveyed f v root file_set entries.now dues.now.links.items dues.now.ids.items → AreCounts f v entries.now.held.items dues.now.counts.items
+        → AreContents f v entries.now.held.items entries.now.kept.items contents.items → TellsTaken f v claims → IfOk result (IsSurvey f v) }
 {
     let addresses = kept_addresses(alloc, &entries.held, &entries.kept)?;
     let numbers = numbers_of(alloc, &addresses)?;
-    let nodes = nodes_of(alloc, root, file_set, entries, &numbers, links, ids)?;
+    let nodes = nodes_of(
+        alloc,
+        root,
+        file_set,
+        entries,
+        &numbers,
+        &dues.links,
+        &dues.ids,
+    )?;
     let indexes = kept_indexes(alloc, &entries.held, &entries.kept)?;
-    let pointers = pointers_of(alloc, entries, &numbers, &indexes)?;
-    let verdicts = judge_all(alloc, entries, &indexes)?;
-    let names = names_of(alloc, entries, &indexes)?;
+    let notes = notes_of(alloc, root, file_set, entries, &numbers, &indexes, dues)?;
+    let order = in_order(alloc, &numbers)?;
     let root = number_of(&numbers, root);
     let system = system_of(entries, &numbers);
+    let files_named = files_of(entries)?;
     Ok(Survey {
         nodes,
         numbers,
@@ -214,9 +284,9 @@ pub(crate) fn survey_of(
         indexes,
         contents,
         claims,
-        pointers,
+        notes,
+        order,
         system,
-        verdicts,
-        names,
+        files_named,
     })
 }

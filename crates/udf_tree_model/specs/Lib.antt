@@ -19,3 +19,4 @@ pub mod Counts
 pub mod Claimed
 pub mod Reads
 pub mod Stated
+pub mod Ordinary

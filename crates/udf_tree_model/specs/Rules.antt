@@ -22,7 +22,7 @@ is_directory_entry s t a = (node_at t a).directory && is_entry s t a
 abbrev pub is_chosen : Setting → Tree → Addr → Link → Bool
 is_chosen s t d f = not (s.start (target_of f.says)) && is_rank d f (chosen s t (target_of f.says))
 
--- the rule on names and links: each live FID is the first of its name, and where it names a directory the chosen link to it
+-- beside the rule on targets: each live FID is the first of its name, and where it names a directory the chosen link to it
 unfoldable pub names_hold : Setting → Tree → Addr → Bool
 names_hold s t d =
     list_all (λ f. is_pointer f.says || (is_named s t d f && (not (is_directory_entry s t (target_of f.says)) || is_chosen s t d f))) (kept_links s t d)

@@ -1,7 +1,7 @@
 use Rattle.std.proofs.Common.{◌≡◌, List, Option, sym, ap, ◌∙◌, subst, arith, map}
 use Rattle.udf_model.specs.Size.{is_size}
 use Rattle.udf_entry.proofs.Told.{size_bounds}
-use Rattle.udf_tree_model.specs.Counts.{wanted_id, wanted_links}
+use Rattle.udf_tree_model.specs.Counts.{wanted_id}
 use Rattle.udf_tree_model.specs.Frame.{setting_of, tree_of}
 use Rattle.udf_tree_model.specs.Laws.{HasSoundStarts}
 use Rattle.udf_tree_model.specs.Parent.{ordinary}
@@ -17,7 +17,6 @@ use Rattle.udf_tree.specs.Fitted.{AreSelected}
 use Rattle.udf_tree.specs.Held.{AreHeldOf}
 use Rattle.udf_tree.specs.Keeping.{AreKept}
 use Rattle.udf_tree.specs.LinkCounts.{AreSettled}
-use Rattle.udf_tree.specs.Nodes.{AreWanted}
 use Rattle.udf_tree.proofs.LinkWants.{ids_wanted, settled_wanted}
 use Rattle.udf_volume.specs.Fixed.{stretches_over}
 use Rattle.udf_volume.specs.declared.stretch.Stretch.{Stretch}
@@ -57,7 +56,8 @@ returns g c f v size place is k contents =
     (subst (λ (r : List Count). AreSettled c.deref-8.result.now r c.in_ok-links.links.items) c.deref-9.ensures.value c.in_ok-links.ensures) in
     let ids = c.in_ok-ids.ensures f v is.root k.set starts (held_in c.deref-10.result.now c.deref-10.ensures.value)
     (c.deref-11.ensures.value ∙ k.entries.ordinary_are ∙ ap (map (λ (h : Held). ordinary f v h.at)) (sym c.deref-10.ensures.value)) in
-    c.survey_of.ensures f v
+    let low = (size_bounds c.args.size c.requires).0 in
+    c.survey_of.ensures f v (omega (arith, low, size))
     (record {
       root_is = is.root;
       file_set_is = is.file_set;
@@ -65,7 +65,7 @@ returns g c f v size place is k contents =
       placed = k.placed;
       accepted = k.accepted;
       entries = k.entries;
-      links_are = subst (AreWanted (wanted_links f v) ks hs) (sym c.deref-12.ensures.value) (settled_wanted f v ks hs c.in_ok-counts.counts.items c.in_ok-links.links.items k.entries.held counted settled);
-      ids_are = subst (AreWanted (wanted_id f v) ks hs) (sym c.deref-13.ensures.value) (ids_wanted f v ks hs c.in_ok-ids.ids.items (ids ∙ ap (map (λ (h : Held). wanted_id f v h.at)) c.deref-10.ensures.value));
+      links_are = settled_wanted f v ks hs c.in_ok-counts.counts.items c.in_ok-links.links.items k.entries.held counted settled;
+      ids_are = ids_wanted f v ks hs c.in_ok-ids.ids.items (ids ∙ ap (map (λ (h : Held). wanted_id f v h.at)) c.deref-10.ensures.value);
     })
-    contents taken
+    counted contents taken

@@ -4,7 +4,7 @@ use Rattle.udf_tree_model.specs.Chosen.{chosen_link}
 use Rattle.udf_tree_model.specs.Frame.{setting_of, tree_of}
 use Rattle.udf_tree.specs.Selects.{is_rank_at}
 use Rattle.udf_tree.proofs.Hanging.{link_is}
-use Rattle.udf_tree.proofs.Judging.{lawful_chosen, lawful_file, lawful_shapeless, lawful_start}
+use Rattle.udf_tree.proofs.Judging.{lawful_chosen, lawful_file, lawful_shapeless, lawful_start, lawful_unsound}
 use Rattle.udf_tree.proofs.judge.is_lawful.Goals as goal
 
 pub returns-then-not-target : goal.returns-then-not-target
@@ -20,9 +20,14 @@ returns-then-target c f v i o here k =
     let some : is_some c.args.target.now.shape ≡ true = search rules in
     lawful_start f v c.args.target.now i o c.args.holder c.args.place here c.if-not-target.false some c.if-target.true
 
+pub returns-then-not-target-2 : goal.returns-then-not-target-2
+returns-then-not-target-2 c f v i o here k =
+    let some : is_some c.args.target.now.shape ≡ true = search rules in
+    lawful_unsound f v c.args.target.now i o c.args.holder c.args.place here c.if-not-target.false some c.if-not-target-2.true
+
 pub returns : goal.returns
 returns c f v i o here k =
     let some : is_some c.args.target.now.shape ≡ true = search rules in
     c.is_link.ensures (λ d. d.level) (chosen_link (setting_of f v) (tree_of f v) c.args.target.now.at) (k c.if-not-target.false)
     ∙ ap (is_rank_at c.args.holder c.args.place) (link_is (setting_of f v) (tree_of f v) c.args.target.now.at (sym i.start ∙ c.if-target.false))
-    ∙ lawful_chosen f v c.args.target.now i o c.args.holder c.args.place here c.if-not-target.false some c.if-target.false
+    ∙ lawful_chosen f v c.args.target.now i o c.args.holder c.args.place here c.if-not-target.false some c.if-target.false c.if-not-target-2.false

@@ -14,4 +14,4 @@ returns c f v root file_set links ids k =
     let tells : Tells f v c.deref.result.now c.deref-2.result.now =
     subst (λ (hs : List Held). Tells f v hs c.deref-2.result.now) (sym c.deref.ensures.value)
     (subst (λ (xs : List Selected). Tells f v e.held.items xs) (sym c.deref-2.ensures.value) (surveyed_tells f v root file_set e links ids k)) in
-    judged_there f v root file_set e links ids k c.args.i h (got e.held.items c.args.i h inside c.index-entry.ensures) c.in_ok-verdicts.verdicts.entries (c.in_ok-verdicts.ensures f v tells)
+    judged_there f v root file_set e links ids k c.args.i h (got e.held.items c.args.i h inside c.index-entry.ensures) c.in_ok-verdicts.verdicts.entries c.in_ok-verdicts.ensures.ordered (c.in_ok-verdicts.ensures.verdicts f v tells)

@@ -20,6 +20,8 @@ returns-clause-over c files attached size = record {
     some = omega arith;
     short = omega arith;
     descriptors_inside = omega arith;
+    primary_inside = omega arith;
     logical_inside = omega arith;
+    partition_inside = omega arith;
   };
 }

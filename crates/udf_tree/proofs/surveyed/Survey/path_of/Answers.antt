@@ -15,7 +15,7 @@ returns c f v k a there =
     let inside = c.self.inside in
     let told = subst (IsSurvey f v) (sym c.self.view_is) k in
     let at : slice_get (node_addresses inside.nodes.items) c.args.id.0 ≡ Some a = subst (λ (x : View). slice_get (node_addresses x.nodes) c.args.id.0 ≡ Some a) (sym c.self.view_is) there in
-    let all : AreSteps f v inside.nodes.items (texts_of inside.names.items) = record { nodes_are = told.nodes_are; names_are = told.names_are } in
+    let all : AreSteps f v inside.nodes.items (texts_of inside.notes.names.items) = record { nodes_are = told.nodes_are; names_are = told.names_are } in
     let are : AreSteps f v c.deref-2.result.now (texts_of c.deref-3.result.now) =
     subst (λ (ns : List Node). AreSteps f v ns (texts_of c.deref-3.result.now)) (sym c.deref-2.ensures.value)
     (subst (λ (xs : List (Vec ℕ Global)). AreSteps f v inside.nodes.items (texts_of xs)) (sym c.deref-3.ensures.value) all) in
