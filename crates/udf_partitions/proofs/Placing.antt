@@ -20,7 +20,7 @@ use Rattle.udf_volume.proofs.Packets.{lawful_is}
 use Rattle.udf_volume.specs.Areas.{area_seen, area_stated, areas_stated, partition_stated, tables_stated}
 use Rattle.udf_volume.specs.Laid.{IsLaidOut, areas_laid}
 use Rattle.udf_volume.specs.declared.volume.Volume.{Volume}
-use Rattle.udf_repair_model.specs.Places.{place_by}
+use Rattle.udf_rules_model.specs.Places.{place_by}
 
 abbrev area_of : Area → layer.Area
 area_of area = record { start = area.start; blocks = area.count }

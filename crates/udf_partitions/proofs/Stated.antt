@@ -12,7 +12,7 @@ use Rattle.udf_volume.specs.Areas.{partition_stated}
 use Rattle.udf_volume.specs.Opened.{volume_by}
 use Rattle.udf_volume.specs.Taken.{IsOpenedOf}
 use Rattle.udf_volume.proofs.Described.{Describes, layout_in_is, opened_ok}
-use Rattle.udf_repair_model.specs.Places.{place_by, place_in, place_of}
+use Rattle.udf_rules_model.specs.Places.{place_by, place_in, place_of}
 
 partition_is : (size : ℕ) (image : List ℕ) (volume : Volume) (v : KeptSequence) → Describes size image volume v → partition_stated volume ≡ partition_area v.list
 unfolding volume_by partition_area

@@ -6,7 +6,7 @@ ghost use Rattle.udf_volume_model.specs.Areas.{packets_of, table_or_none};
 ghost use Rattle.udf_volume_model.specs.Layout.{are_packets};
 ghost use Rattle.udf_volume.specs.Areas.{areas_stated, partition_stated};
 ghost use Rattle.udf_volume.specs.Laid.{IsLaidOut};
-ghost use Rattle.udf_repair_model.specs.Places.{place_by};
+ghost use Rattle.udf_rules_model.specs.Places.{place_by};
 ghost use Rattle.udf_partitions.specs.Base.{IsPartition, base_place};
 
 use crate::Base;

@@ -4,7 +4,7 @@ ghost use Rattle.udf_volume_model.specs.Areas.{table_or_none};
 ghost use Rattle.udf_volume.specs.declared.opened.Opened.{Opened};
 ghost use Rattle.udf_volume.specs.Areas.{partition_stated};
 ghost use Rattle.udf_volume.specs.Taken.{IsOpenedOf};
-ghost use Rattle.udf_repair_model.specs.Places.{place_by, place_of};
+ghost use Rattle.udf_rules_model.specs.Places.{place_by, place_of};
 
 /// Of a volume that was opened of an image, the partition and the sparing table place the blocks of the partition as the image does.
 pub fn partitions_law()

@@ -6,7 +6,7 @@ use Rattle.udf_volume_model.specs.Areas.{Area, partition_area, no_table}
 use Rattle.udf_volume_model.specs.Kept.{KeptSequence}
 use Rattle.udf_volume_model.specs.AllRules.{layout_in}
 use Rattle.udf_repair_model.specs.Accepted.{is_accepted, mended, mend}
-use Rattle.udf_repair_model.specs.Places.{place_by, place_in, place_of}
+use Rattle.udf_rules_model.specs.Places.{place_by, place_in, place_of}
 use Rattle.udf_repair_model.proofs.Repair.{law, by_acceptance}
 
 module _ (size : ℕ) (image : List ℕ) (large : 512 ≤ size) where

@@ -1,3 +1,2 @@
 pub mod Accepted
 pub mod Sized
-pub mod Places

@@ -7,7 +7,7 @@ ghost use Rattle.udf_volume.specs.Writable.{writable_opening};
 ghost use Rattle.udf_file_model.specs.Place.{physical_place};
 ghost use Rattle.udf_volume_model.specs.Areas.{Area, no_table};
 ghost use Rattle.udf_repair_model.specs.Accepted.{is_accepted, is_unbroken, mended, mend};
-ghost use Rattle.udf_repair_model.specs.Places.{place_by, place_of};
+ghost use Rattle.udf_rules_model.specs.Places.{place_by, place_of};
 
 /// The mended image of an accepted one is accepted and breaks no rule, and every image is repaired to one that a second repair
 /// leaves. It differs at most in whole blocks: not at all where no rule is broken, and somewhere where an accepted image

@@ -28,11 +28,11 @@ blank_bits blocks =
     ∙ ap (λ b. eqb b 1) (bit_at_ones 8 (n % 8) (omega arith)) ∙ sym (get_or-replicate blocks n true false small))
 
 -- a byte that is written changes no bit of another byte
-other_byte : (bytes : List ℕ) (k x n : ℕ) → n / 8 ≢ k → bit_of (set bytes k x) n ≡ bit_of bytes n
+pub other_byte : (bytes : List ℕ) (k x n : ℕ) → n / 8 ≢ k → bit_of (set bytes k x) n ≡ bit_of bytes n
 unfolding bit_of
 other_byte bytes k x n apart = ap (λ byte. eqb (bit_at byte (n % 8)) 1) (get_or-set_other bytes k (n / 8) x 0 apart)
 
-same_byte : (bytes : List ℕ) (k i x n : ℕ) → n ≡ 8 * k + i → i < 8 → k < length bytes → bit_of (set bytes k x) n ≡ eqb (bit_at x i) 1
+pub same_byte : (bytes : List ℕ) (k i x n : ℕ) → n ≡ 8 * k + i → i < 8 → k < length bytes → bit_of (set bytes k x) n ≡ eqb (bit_at x i) 1
 same_byte bytes k i x n is small within =
     bit_at_place (set bytes k x) k i n is small ∙ ap (λ byte. eqb (bit_at byte i) 1) (get_or-set_same bytes k x 0 within)
 

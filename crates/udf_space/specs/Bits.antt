@@ -1,5 +1,5 @@
 -- The bits of a space bitmap and the bytes that hold them (ECMA-167 4/14.12.4): one bit a block, 1 for a free block.
-use Rattle.std.specs.Prelude.{ℕ, ◌+◌, ◌*◌, ◌/◌, ◌%◌, ◌==◌, Bool, if◌then◌else◌, List, [], ◌∷◌, length, take, drop, map, slice_index}
+use Rattle.std.specs.Prelude.{ℕ, ◌+◌, ◌*◌, ◌/◌, ◌%◌, ◌==◌, Bool, not, if◌then◌else◌, List, [], ◌∷◌, length, take, drop, map, slice_index}
 use Rattle.std.specs.List.{range_with_len}
 use Rattle.std.specs.Int.{bit_at}
 
@@ -23,3 +23,7 @@ byte_of (bit ∷ bits) = (if bit then 1 else 0) + 2 * byte_of bits
 -- the bytes of bits, eight to a byte, with zeros past the last bit
 unfoldable pub packed : List Bool → List ℕ
 packed bits = map (λ k. byte_of (take 8 (drop (8 * k) bits))) (range_with_len 0 (bytes_for (length bits)))
+
+-- one of two bits alone is set
+abbrev pub differ : Bool → Bool → Bool
+differ one two = if one then not two else two

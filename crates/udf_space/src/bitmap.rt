@@ -1,11 +1,12 @@
 // The bitmap of a partition.
-ghost use Rattle.std.specs.Prelude.{◌≡◌, ◌+◌, ◌≤◌, ◌<◌, true, false, IfOk, Some, length, replicate, count_by, slice_get, slice_set};
-ghost use Rattle.udf_space.specs.Bits.{bytes_for};
+ghost use Rattle.std.specs.Prelude.{◌≡◌, ◌+◌, ◌≤◌, ◌<◌, ◌++◌, true, false, IfOk, Some, length, take, drop, replicate, count_by, slice_get, slice_set};
+ghost use Rattle.std.specs.Simd.Lanes.{zip2};
+ghost use Rattle.udf_space.specs.Bits.{bytes_for, differ};
 ghost use Rattle.udf_space.specs.Area.{bitmap_in, encoded};
 
 use crate::NoMemory;
 use crate::header::{BITS_AT, has_header, put_header};
-use crate::stored::{BYTE_BITS, clear_rest, stored_bytes};
+use crate::stored::{BYTE_BITS, clear_rest, clear_run, stored_bytes};
 use std::alloc::Global;
 use std::marker::Model;
 use udf_field::retag;
@@ -74,6 +75,14 @@ impl Bitmap {
         self.bytes[(block / BYTE_BITS) as usize] &= !(1u8 << (block % BYTE_BITS));
     }
 
+    /// Makes a run of blocks used. Takes a step for each byte of the run.
+    pub fn claim_run(&mut self, block: u32, blocks: u32)
+        requires { block + blocks ≤ length self.old }
+        ensures { self.new ≡ take block self.old ++ replicate blocks false ++ drop (block + blocks) self.old }
+    {
+        clear_run(&mut self.bytes, block, block + blocks);
+    }
+
     /// The number of free blocks.
     pub fn free_count(&self) -> u32
         ensures { result ≡ count_by (λ free. free) self.now }
@@ -83,6 +92,20 @@ impl Bitmap {
         let mut total = 0;
         for byte in &self.bytes {
             total += byte.count_ones();
+        }
+        total
+    }
+
+    /// How many blocks are free in one of two bitmaps of as many blocks alone.
+    pub fn differing(&self, other: &Bitmap) -> u32
+        requires { length self.now ≡ length other.now }
+        ensures { result ≡ count_by (λ differs. differs) (zip2 differ self.now other.now) }
+    {
+        // The count is at most this, so it fits.
+        let _blocks = self.blocks;
+        let mut total = 0;
+        for i in 0..self.bytes.len() {
+            total += (self.bytes[i] ^ other.bytes[i]).count_ones();
         }
         total
     }

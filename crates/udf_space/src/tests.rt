@@ -27,6 +27,20 @@ fn three_of_ten_claimed(rt: HostRuntime) -> Result<(), Fail> {
 }
 
 #[test]
+fn run_claimed_over_three_bytes(rt: HostRuntime) -> Result<(), Fail> {
+    let blank = Bitmap::blank(rt.alloc(), 30)?;
+    let mut bitmap = Bitmap::blank(rt.alloc(), 30)?;
+    bitmap.claim_run(5, 18);
+    assert_eq!(rt; bitmap.free_count(), 12);
+    assert!(rt; bitmap.is_free(4) && !bitmap.is_free(5));
+    assert!(rt; !bitmap.is_free(22) && bitmap.is_free(23));
+    assert_eq!(rt; blank.differing(&bitmap), 18);
+    bitmap.claim_run(9, 0);
+    assert_eq!(rt; bitmap.free_count(), 12);
+    Ok(())
+}
+
+#[test]
 fn fresh_bitmap_written(rt: HostRuntime) -> Result<(), Fail> {
     let mut bitmap = Bitmap::blank(rt.alloc(), FRESH_BLOCKS)?;
     bitmap.claim(0);

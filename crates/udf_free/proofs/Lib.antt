@@ -1,0 +1,5 @@
+pub mod Judging
+pub mod Reading
+pub mod Claiming
+pub mod Standing
+pub mod TestParts

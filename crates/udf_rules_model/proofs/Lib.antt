@@ -1,0 +1,4 @@
+pub mod Nothing
+pub mod Ruled
+pub mod Together
+pub mod Fronts
