@@ -1,2 +1,4 @@
 pub mod Ordered
 pub mod Reported
+pub mod Naming
+pub mod Recognising

@@ -38,7 +38,7 @@ impl Model for Findings {
 
 impl Findings {
     /// No findings.
-    pub(crate) fn none(alloc: Global) -> Findings
+    pub fn none(alloc: Global) -> Findings
         ensures { result ≡ [] }
     {
         Findings {
@@ -47,7 +47,7 @@ impl Findings {
     }
 
     /// Adds a finding at the end.
-    pub(crate) fn push(&mut self, finding: Finding) -> Result<(), AllocError>
+    pub fn push(&mut self, finding: Finding) -> Result<(), AllocError>
         ensures ok { OnOk result (self.new ≡ self.old ++ finding ∷ []) }
         ensures err { OnErr result (self.new ≡ self.old) }
     {

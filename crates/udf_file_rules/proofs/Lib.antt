@@ -1,0 +1,15 @@
+pub mod Along
+pub mod Entry
+pub mod Told
+pub mod Spaced
+pub mod Tallying
+pub mod Ordinaries
+pub mod Bounding
+pub mod Judging
+pub mod ToldContents
+pub mod All
+pub mod Freed
+pub mod LinkPlaces
+pub mod ToldLinks
+pub mod Interleaving
+pub mod ToldTargets

@@ -1,0 +1,7 @@
+use Rattle.std.proofs.Common.{◌≡◌, ◌++◌, take}
+use Rattle.std.specs.List.{flat_map}
+use Rattle.udf_file_rules.specs.Seen.{allocation_at}
+use Rattle.udf_file_rules.proofs.allocation.check_allocation.Given as goal
+
+abbrev pub invariant-loop-id : goal.invariant-loop-id
+invariant-loop-id l = l.findings ≡ l.initial.findings ++ flat_map (allocation_at l.survey) (take l.id-index l.order)

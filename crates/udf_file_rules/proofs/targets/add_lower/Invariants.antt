@@ -1,0 +1,7 @@
+use Rattle.std.proofs.Common.{◌≡◌, ◌++◌, take}
+use Rattle.std.specs.List.{flat_map}
+use Rattle.udf_file_rules.specs.SeenLinks.{targets_below}
+use Rattle.udf_file_rules.proofs.targets.add_lower.Given as goal
+
+abbrev pub invariant-loop-id : goal.invariant-loop-id
+invariant-loop-id l = l.findings ≡ l.initial.findings ++ flat_map (targets_below l.survey l.than) (take l.id-index l.order)
