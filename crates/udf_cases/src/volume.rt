@@ -1,7 +1,8 @@
 //! Volumes as words: `fresh` (the fresh volume of 1,024 blocks of 512 bytes), `bare` (the same with a partition of zeros), `files`
 //! (the fresh one with entries), `disc:BLOCKS` (a fresh sparable volume of at least 850 blocks of 512 bytes), `sparable` (the one of
 //! 850 blocks with a partition of zeros), `three:SIZE:BLOCKS` (a volume of any block size, at least 540 blocks, three anchors and a
-//! partition of zeros), `short:BLOCKS` (a volume of at least 290 blocks of 512 bytes, with two anchors and a partition of zeros).
+//! partition of zeros), `whole:SIZE:BLOCKS` (the same with an empty root), `short:BLOCKS` (a volume of at least 290 blocks of 512
+//! bytes, with two anchors and a partition of zeros), `few:BLOCKS` (the same with an empty root).
 //! `zeros:BYTES` is no volume, but an image of so many zeros.
 ghost use Rattle.std.specs.Prelude.{◌<◌, ◌≤◌, ◌^◌};
 
@@ -15,7 +16,7 @@ pub(crate) fn size_of(word: &str) -> u32
     ensures { 0 < result }
 {
     match part(word, ':', 0) {
-        "three" => small(word, 1).clamp(512, 4096),
+        "three" | "whole" => small(word, 1).clamp(512, 4096),
         _ => 512,
     }
 }
@@ -56,6 +57,11 @@ pub(crate) fn volume_named(alloc: Global, word: &str) -> Result<Vec<u8>, NoMemor
             alloc,
             &Form::three_anchors(size_of(word), small(word, 2).max(540)),
         ),
+        "whole" => volume_of(
+            alloc,
+            &Form::three_anchors(size_of(word), small(word, 2).max(540)),
+        ),
+        "few" => volume_of(alloc, &Form::two_anchors(512, small(word, 1).max(290))),
         "short" => bare_volume(alloc, &Form::two_anchors(512, small(word, 1).max(290))),
         _ => Ok(Vec::new(alloc)),
     }

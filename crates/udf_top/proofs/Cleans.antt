@@ -1,5 +1,5 @@
 -- When a run is clean, by the rules.
-use Rattle.std.proofs.Common.{◌≡◌, ℕ, zero, suc, List, [], ◌∷◌, refl, sym, ◌∙◌, ap, true, false, Option, Some, None, Result, Ok, Err, is_ok}
+use Rattle.std.proofs.Common.{◌≡◌, ℕ, zero, suc, List, [], ◌∷◌, refl, sym, ◌∙◌, ap, true, false, Option, Some, None, Result, Ok, Err}
 use Rattle.udf_outside.specs.Stops.{Pair}
 use Rattle.udf_volume_model.specs.Size.{size_of}
 use Rattle.udf_repair_model.specs.Accepted.{is_accepted, is_unbroken}
@@ -9,7 +9,6 @@ use Rattle.udf_layer.specs.declared.missing.Missing.TheVariants.{Anchor}
 use Rattle.udf_volume.specs.declared.volume.Volume.{Volume}
 use Rattle.udf_volume.specs.Taken.{opening}
 use Rattle.udf_volume.specs.Writable.{writable_opening}
-use Rattle.udf_volume.proofs.Described.{opened_ok}
 use Rattle.udf_redo.specs.declared.stop.RedoStop.{RedoStop}
 use Rattle.udf_redo.specs.declared.stop.RedoStop.TheVariants as stop
 use Rattle.udf_redo.specs.Settled.{settled}
@@ -17,7 +16,8 @@ use Rattle.udf_rules.specs.declared.finding.Finding.{Finding}
 use Rattle.udf_top.specs.declared.outcome.Outcome.TheVariants as outcome
 use Rattle.udf_rules.specs.Findings.{findings_in}
 use Rattle.udf_top.specs.Repairing.{replaying, refused_log, repaired_as, mend_of, mend_sized, repair_from, repair_of, written_in}
-use Rattle.udf_top.specs.Udffsck.{by_findings, by_opened, check_at, check_sized, check_of}
+use Rattle.udf_top.specs.Udffsck.{by_findings, by_refusal, check_at, check_sized, check_of, found_at, found_by, refusal_at, refusal_by, rules_by, rules_hold_at}
+use Rattle.udf_top.proofs.Checks.{nothing_checked, checked_nothing}
 use Rattle.udf_top.proofs.Mending.{accepted_ok, not_accepted, mend_ok, mend_refused, none_found, none_unbroken_image, unbroken_finds_none}
 
 -- no findings
@@ -38,23 +38,34 @@ not_clean stop.Fault e = absurd (cc)
 not_clean stop.Memory e = absurd (cc)
 
 module _ (size : ℕ) (image : List ℕ) where
-  check_as : (found : Result Volume Missing) → opening size image ≡ found → check_at size image ≡ by_opened found (findings_in size image)
+  clean_refused : (o : Option Missing) → refusal_at size image ≡ o → check_at size image ≡ outcome.Clean → (refusal_at size image ≡ None) × (found_at size image ≡ [])
   unfolding check_at
-  check_as found e = ap (λ (r : Result Volume Missing). by_opened r (findings_in size image)) e
+  clean_refused None e clean =
+      (e, found_none (found_at size image) (sym (ap (λ (r : Option Missing). by_refusal r (found_at size image)) e) ∙ clean))
+  clean_refused (Some missing) e clean =
+      absurd (let no : outcome.Refused missing ≡ outcome.Clean = sym (ap (λ (r : Option Missing). by_refusal r (found_at size image)) e) ∙ clean in cc)
 
-  clean_at : check_at size image ≡ outcome.Clean → (is_ok (opening size image) ≡ true) × (is_unbroken size image ≡ true)
-  clean_at clean = by_answer (opening size image) refl where
-    by_answer : (found : Result Volume Missing) → opening size image ≡ found → (is_ok (opening size image) ≡ true) × (is_unbroken size image ≡ true)
-    by_answer (Ok volume) e =
-        let d = opened_ok size image volume e in
-        (ap is_ok e, none_found size image d.0 d.1.found (found_none (findings_in size image) (sym (check_as (Ok volume) e) ∙ clean)))
-    by_answer (Err missing) e = absurd (let no : outcome.Refused missing ≡ outcome.Clean = sym (check_as (Err missing) e) ∙ clean in cc)
+  clean_at : check_at size image ≡ outcome.Clean → (refusal_at size image ≡ None) × (rules_hold_at size image ≡ true)
+  unfolding refusal_at found_at rules_hold_at
+  clean_at clean =
+      let is = clean_refused (refusal_at size image) refl clean in
+      (is.0, by_answer (opening size image) refl is.0 is.1) where
+        by_answer : (found : Result Volume Missing) → opening size image ≡ found → refusal_at size image ≡ None → found_at size image ≡ [] → rules_hold_at size image ≡ true
+        by_answer (Ok volume) e none nothing =
+            ap (λ (r : Result Volume Missing). rules_by size r image) e
+            ∙ nothing_checked size image volume e (sym (ap (λ (r : Result Volume Missing). found_by r image) e) ∙ nothing)
+        by_answer (Err missing) e none nothing =
+            absurd (let no : Some missing ≡ None = sym (ap (λ (r : Result Volume Missing). refusal_by r image) e) ∙ none in cc)
 
-  at_clean : is_ok (opening size image) ≡ true → is_unbroken size image ≡ true → check_at size image ≡ outcome.Clean
-  at_clean ok unbroken = by_answer (opening size image) refl where
-    by_answer : (found : Result Volume Missing) → opening size image ≡ found → check_at size image ≡ outcome.Clean
-    by_answer (Ok volume) e = check_as (Ok volume) e ∙ ap by_findings (unbroken_finds_none size image unbroken)
-    by_answer (Err missing) e = absurd (let no : true ≡ false = sym ok ∙ ap is_ok e in cc)
+  at_clean : refusal_at size image ≡ None → rules_hold_at size image ≡ true → check_at size image ≡ outcome.Clean
+  unfolding check_at found_at rules_hold_at
+  at_clean none rules =
+      ap (λ (r : Option Missing). by_refusal r (found_at size image)) none ∙ ap by_findings (by_answer (opening size image) refl rules) where
+        by_answer : (found : Result Volume Missing) → opening size image ≡ found → rules_hold_at size image ≡ true → found_at size image ≡ []
+        by_answer (Ok volume) e rules =
+            ap (λ (r : Result Volume Missing). found_by r image) e
+            ∙ checked_nothing size image volume e (sym (ap (λ (r : Result Volume Missing). rules_by size r image) e) ∙ rules)
+        by_answer (Err missing) e rules = absurd (let no : false ≡ true = sym (ap (λ (r : Result Volume Missing). rules_by size r image) e) ∙ rules in cc)
 
   mend_clean : (replayed : ℕ) → mend_of size replayed image ≡ outcome.Clean → (replayed ≡ 0) × ((is_accepted size image ≡ true) × (is_unbroken size image ≡ true))
   mend_clean replayed clean = by_answer (writable_opening size image) refl where
@@ -74,7 +85,7 @@ module _ (size : ℕ) (image : List ℕ) where
 -- at the block size that is given or found
 module _ (given : Option ℕ) (image : List ℕ) where
   abbrev pub IsCleanAt : ℕ → Type 0
-  IsCleanAt size = (is_ok (opening size image) ≡ true) × (is_unbroken size image ≡ true)
+  IsCleanAt size = (refusal_at size image ≡ None) × (rules_hold_at size image ≡ true)
 
   pub clean_check : check_of given image ≡ outcome.Clean → (size : ℕ) × ((size_of given image ≡ Some size) × IsCleanAt size)
   clean_check clean = by_size (size_of given image) refl where
@@ -82,9 +93,9 @@ module _ (given : Option ℕ) (image : List ℕ) where
     by_size None e = absurd (let no : outcome.Refused Anchor ≡ outcome.Clean = sym (ap (λ (f : Option ℕ). check_sized f image) e) ∙ clean in cc)
     by_size (Some size) e = (size, (e, clean_at size image (sym (ap (λ (f : Option ℕ). check_sized f image) e) ∙ clean)))
 
-  pub check_clean : (size : ℕ) → size_of given image ≡ Some size → is_ok (opening size image) ≡ true → is_unbroken size image ≡ true
+  pub check_clean : (size : ℕ) → size_of given image ≡ Some size → refusal_at size image ≡ None → rules_hold_at size image ≡ true
       → check_of given image ≡ outcome.Clean
-  check_clean size e ok unbroken = ap (λ (f : Option ℕ). check_sized f image) e ∙ at_clean size image ok unbroken
+  check_clean size e none rules = ap (λ (f : Option ℕ). check_sized f image) e ∙ at_clean size image none rules
 
   abbrev IsRepairClean : ℕ → Type 0
   IsRepairClean replayed = (replayed ≡ 0) × ((is_accepted_as given image ≡ true) × (is_unbroken_as given image ≡ true))

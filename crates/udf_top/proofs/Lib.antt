@@ -8,4 +8,6 @@ pub mod Safe
 pub mod Commanded
 pub mod Ends
 pub mod Rerun
+pub mod Checks
 pub mod Cleans
+pub mod Examining

@@ -1,5 +1,5 @@
 -- The outcome of a check, and a sink that a run has not written to.
-use Rattle.std.proofs.Common.{◌≡◌, ℕ, ◌+◌, ◌*◌, ◌/◌, ◌%◌, ◌≤◌, arith, ◌++◌, sym, ◌∙◌, ap, List, Option, Some, Result, Ok, Err}
+use Rattle.std.proofs.Common.{◌≡◌, ℕ, ◌+◌, ◌*◌, ◌/◌, ◌%◌, ◌≤◌, arith, ◌++◌, sym, ◌∙◌, ap, List, Option, Some, None, Result, Ok, Err}
 use Rattle.std.proofs.lemmas.List.{append-nil}
 use Rattle.std.proofs.lemmas.Nat.{div-add-mod'}
 use Rattle.udf_layer.specs.declared.missing.Missing.{Missing}
@@ -12,16 +12,16 @@ use Rattle.udf_rules.specs.declared.finding.Finding.{Finding}
 use Rattle.udf_top.specs.declared.outcome.Outcome.TheVariants as outcome
 use Rattle.udf_rules.specs.Findings.{findings_in}
 use Rattle.udf_top.specs.Texts.{replayed_text}
-use Rattle.udf_top.specs.Udffsck.{by_findings, by_opened, check_at, check_sized, check_of, Examines, ExaminesAt, HoldsFront}
+use Rattle.udf_top.specs.Udffsck.{by_findings, by_refusal, check_at, found_at, refusal_at, check_sized, check_of, Examines, ExaminesAt, HoldsFront}
 
-refused : (size : ℕ) (image : List ℕ) (missing : Missing) → opening size image ≡ Err missing → outcome.Refused missing ≡ check_at size image
+refused : (size : ℕ) (image : List ℕ) (missing : Missing) → refusal_at size image ≡ Some missing → outcome.Refused missing ≡ check_at size image
 unfolding check_at
-refused size image missing e = sym (ap (λ (r : Result Volume Missing). by_opened r (findings_in size image)) e)
+refused size image missing e = sym (ap (λ (r : Option Missing). by_refusal r (found_at size image)) e)
 
-examined : (size : ℕ) (image : List ℕ) (findings : List Finding) → ((volume : Volume) × (opening size image ≡ Ok volume)) → findings ≡ findings_in size image
+examined : (size : ℕ) (image : List ℕ) (findings : List Finding) → refusal_at size image ≡ None → findings ≡ found_at size image
     → by_findings findings ≡ check_at size image
 unfolding check_at
-examined size image findings (volume, e) is = ap by_findings is ∙ sym (ap (λ (r : Result Volume Missing). by_opened r (findings_in size image)) e)
+examined size image findings e is = ap by_findings is ∙ sym (ap (λ (r : Option Missing). by_refusal r (found_at size image)) e)
 
 -- at the block size that is given or found
 module _ (given : Option ℕ) (image : List ℕ) (size : ℕ) (sized : size_of given image ≡ Some size) where
@@ -29,7 +29,7 @@ module _ (given : Option ℕ) (image : List ℕ) (size : ℕ) (sized : size_of g
   at_size = sym (ap (λ (found : Option ℕ). check_sized found image) sized)
 
   pub examined_sized : (answer : Result (List Finding) LayerStop) → ExaminesAt size image answer → Examines given image answer
-  examined_sized (Ok findings) (opens, is) = examined size image findings opens is ∙ at_size
+  examined_sized (Ok findings) (none, is) = examined size image findings none is ∙ at_size
   examined_sized (Err (stops.Missing missing)) refuses = refused size image missing refuses ∙ at_size
   examined_sized (Err stops.Fault) answers = tt
   examined_sized (Err stops.Memory) answers = tt

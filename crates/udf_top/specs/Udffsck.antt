@@ -1,9 +1,10 @@
 -- What `udffsck` answers and prints.
-use Rattle.std.specs.Prelude.{◌≡◌, ℕ, if◌then◌else◌, Option, Some, None, List, [], ◌∷◌, ◌++◌, take, Result, Ok, Err}
+use Rattle.std.specs.Prelude.{◌≡◌, ℕ, Bool, false, ◌&&◌, if◌then◌else◌, Option, Some, None, List, [], ◌∷◌, ◌++◌, take, Result, Ok, Err}
 use Rattle.std.specs.Str.{bytes_eq}
 use Rattle.udf_outside.specs.Stops.{Pair}
 use Rattle.udf_volume_model.specs.Size.{size_of}
 use Rattle.udf_layer.specs.declared.missing.Missing.{Missing}
+use Rattle.udf_layer.specs.declared.missing.Missing.TheVariants as missing
 use Rattle.udf_layer.specs.declared.missing.Missing.TheVariants.{Anchor}
 use Rattle.udf_layer.specs.declared.missing.LayerStop.{LayerStop}
 use Rattle.udf_layer.specs.declared.missing.LayerStop.TheVariants as stops
@@ -14,7 +15,10 @@ use Rattle.udf_top.specs.declared.outcome.Outcome.{Outcome}
 use Rattle.udf_top.specs.declared.outcome.Outcome.TheVariants as outcome
 use Rattle.udf_words.specs.declared.cause.Cause.{Cause}
 use Rattle.udf_words.specs.Words.{Command, command_in}
-use Rattle.udf_rules.specs.Findings.{findings_in}
+use Rattle.udf_file_rules.specs.Checked.{checked}
+use Rattle.udf_files.specs.Refusal.{files_refusal}
+use Rattle.udf_repair_model.specs.Accepted.{is_unbroken}
+use Rattle.udf_rules_model.specs.Findings.{further_rules_hold}
 use Rattle.udf_top.specs.Texts.{text_of}
 use Rattle.udf_top.specs.Repairing.{repair_of, repair_said}
 
@@ -23,13 +27,37 @@ abbrev pub by_findings : List Finding → Outcome
 by_findings [] = outcome.Clean
 by_findings (finding ∷ rest) = outcome.Broken (finding ∷ rest)
 
-abbrev pub by_opened : Result Volume Missing → List Finding → Outcome
-by_opened (Err missing) findings = outcome.Refused missing
-by_opened (Ok volume) findings = by_findings findings
+-- the first refusal of an image that is checked: of the volume, else of its integrity sequence, its file set or its entries
+abbrev pub refusal_by : Result Volume Missing → List ℕ → Option Missing
+refusal_by (Err missing) image = Some missing
+refusal_by (Ok volume) image = files_refusal volume image
+
+-- what breaks the rules on an opened volume
+abbrev pub found_by : Result Volume Missing → List ℕ → List Finding
+found_by (Err missing) image = []
+found_by (Ok volume) image = checked volume image
+
+abbrev pub by_refusal : Option Missing → List Finding → Outcome
+by_refusal (Some missing) findings = outcome.Refused missing
+by_refusal None findings = by_findings findings
+
+unfoldable pub refusal_at : ℕ → List ℕ → Option Missing
+refusal_at size image = refusal_by (opening size image) image
+
+unfoldable pub found_at : ℕ → List ℕ → List Finding
+found_at size image = found_by (opening size image) image
 
 -- the outcome of a check of an image, where nothing fails: the first refusal that applies, or what breaks the rules
 unfoldable pub check_at : ℕ → List ℕ → Outcome
-check_at size image = by_opened (opening size image) (findings_in size image)
+check_at size image = by_refusal (refusal_at size image) (found_at size image)
+
+abbrev pub rules_by : ℕ → Result Volume Missing → List ℕ → Bool
+rules_by size (Err missing) image = false
+rules_by size (Ok volume) image = is_unbroken size image && further_rules_hold volume image
+
+-- a volume is opened, and every rule that is built holds on it and on its files
+unfoldable pub rules_hold_at : ℕ → List ℕ → Bool
+rules_hold_at size image = rules_by size (opening size image) image
 
 -- the same at the block size that is given, or else found; without one the image is refused
 abbrev pub check_sized : Option ℕ → List ℕ → Outcome
@@ -80,10 +108,17 @@ Examines given image (Err (stops.Missing missing)) = outcome.Refused missing ≡
 Examines given image (Err stops.Fault) = Unit {0}
 Examines given image (Err stops.Memory) = Unit {0}
 
--- the same at a block size
+-- of a volume that was opened
+abbrev pub ExaminesVolume : Volume → List ℕ → Result (List Finding) LayerStop → Type 0
+ExaminesVolume volume image (Ok findings) = (files_refusal volume image ≡ None) × (findings ≡ checked volume image)
+ExaminesVolume volume image (Err (stops.Missing missing)) = files_refusal volume image ≡ Some missing
+ExaminesVolume volume image (Err stops.Fault) = Unit {0}
+ExaminesVolume volume image (Err stops.Memory) = Unit {0}
+
+-- at a block size
 abbrev pub ExaminesAt : ℕ → List ℕ → Result (List Finding) LayerStop → Type 0
-ExaminesAt size image (Ok findings) = ((volume : Volume) × (opening size image ≡ Ok volume)) × (findings ≡ findings_in size image)
-ExaminesAt size image (Err (stops.Missing missing)) = opening size image ≡ Err missing
+ExaminesAt size image (Ok findings) = (refusal_at size image ≡ None) × (findings ≡ found_at size image)
+ExaminesAt size image (Err (stops.Missing missing)) = refusal_at size image ≡ Some missing
 ExaminesAt size image (Err stops.Fault) = Unit {0}
 ExaminesAt size image (Err stops.Memory) = Unit {0}
 
@@ -93,3 +128,20 @@ Sizes given image (Ok size) = size_of given image ≡ Some size
 Sizes given image (Err (stops.Missing missing)) = (size_of given image ≡ None) × (missing ≡ Anchor)
 Sizes given image (Err stops.Fault) = Unit {0}
 Sizes given image (Err stops.Memory) = Unit {0}
+
+-- a check refuses what the volume, its file set or its entries lack; write protection refuses a repair alone
+abbrev pub IsOfCheck : Missing → Type 0
+IsOfCheck missing.TooLarge = Unit {0}
+IsOfCheck missing.Anchor = Unit {0}
+IsOfCheck missing.Sequence = Unit {0}
+IsOfCheck (missing.Profile item) = Unit {0}
+IsOfCheck missing.Layout = Unit {0}
+IsOfCheck missing.SparingTable = Unit {0}
+IsOfCheck missing.FileSet = Unit {0}
+IsOfCheck missing.RootDirectory = Unit {0}
+IsOfCheck missing.WriteProtected = ⊥
+
+abbrev pub RefusesCheck : LayerStop → Type 0
+RefusesCheck (stops.Missing missing) = IsOfCheck missing
+RefusesCheck stops.Fault = Unit {0}
+RefusesCheck stops.Memory = Unit {0}

@@ -22,6 +22,7 @@ fn item(item: ProfileItem) -> &'static str
         ProfileItem::PartitionMaps => "PartitionMaps",
         ProfileItem::Unbuilt => "Unbuilt",
         ProfileItem::SpaceTables => "SpaceTables",
+        ProfileItem::IntegrityChain => "IntegrityChain",
         ProfileItem::FileSets => "FileSets",
         ProfileItem::Strategy => "Strategy",
         ProfileItem::ExtendedDescriptors => "ExtendedDescriptors",

@@ -4,7 +4,6 @@ ghost use Rattle.udf_outside.specs.Stops.{pair_of, IsSynced};
 ghost use Rattle.udf_outside.specs.Causes.{Rose};
 ghost use Rattle.udf_words.specs.declared.cause.Cause.{Cause};
 ghost use Rattle.udf_layer.specs.declared.missing.Missing.{Missing};
-ghost use Rattle.udf_volume.specs.Refusals.{IsOfVolume};
 ghost use Rattle.udf_model.specs.Size.{is_size};
 ghost use Rattle.udf_top.specs.Words.{Repair, repair_in, beside, checks, names_one_by, names_one_file};
 ghost use Rattle.udf_words.specs.Words.{Command, command_in};
@@ -14,7 +13,7 @@ ghost use Rattle.udf_top.specs.Attaching.{AsksFor, AsksToCheck};
 ghost use Rattle.udf_top.specs.Steps.{Says};
 ghost use Rattle.udf_top.specs.Endings.{HasEnded};
 ghost use Rattle.udf_top.specs.Headline.{Repairs};
-ghost use Rattle.udf_top.specs.Udffsck.{outcome_beside, outcome_of, said_beside, output_of, text_by, HoldsFront};
+ghost use Rattle.udf_top.specs.Udffsck.{outcome_beside, outcome_of, said_beside, output_of, text_by, HoldsFront, IsOfCheck};
 
 use crate::Outcome;
 use crate::say::say;
@@ -103,9 +102,9 @@ pub fn run_udffsck<B: Bench, O: Sink>(
     ensures same_file { result ≡ Outcome.SameFile → names_one_file (command_in (map string_bytes words.now)) ≡ true }
     ensures same_names { names_one_file (command_in (map string_bytes words.now)) ≡ true → HasEnded result → result ≡ Outcome.SameFile }
 
-    // A check refuses what the volume's description lacks, over every bench, and nothing else.
+    // A check refuses what the volume, its file set or its entries lack, over every bench, and not write protection.
     ensures refused { (missing : Missing) → result ≡ Outcome.Refused missing → checks (command_in (map string_bytes words.now)) ≡ true
-        → IsOfVolume missing }
+        → IsOfCheck missing }
 
     // Each fault has a cause.
     ensures device { result ≡ Outcome.DeviceFault → Rose (B.faults bench.old) (B.faults bench.new) }

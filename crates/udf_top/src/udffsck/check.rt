@@ -8,20 +8,41 @@ ghost use Rattle.udf_outside.specs.declared.bench.Role.TheVariants.{Image};
 ghost use Rattle.udf_outside.specs.declared.bench.Access.TheVariants.{Read};
 ghost use Rattle.udf_layer.specs.declared.missing.Missing.{Missing};
 ghost use Rattle.udf_model.specs.Size.{is_size};
-ghost use Rattle.udf_volume.specs.Refusals.{IsOfVolume, RefusesVolume};
+ghost use Rattle.udf_volume.specs.Taken.{IsOpenOver, IsOpenedOf};
 ghost use Rattle.udf_words.specs.declared.cause.Cause.{Cause};
 ghost use Rattle.udf_top.specs.Endings.{HasEnded};
-ghost use Rattle.udf_top.specs.Udffsck.{check_of, by_findings, Examines, ExaminesAt};
+ghost use Rattle.udf_top.specs.Udffsck.{check_of, by_findings, Examines, ExaminesAt, ExaminesVolume, IsOfCheck, RefusesCheck};
 
 use crate::udffsck::sized::size_for;
 use crate::{Findings, Outcome};
 use std::alloc::Global;
+use udf_file_rules::check_files;
+use udf_files::files_of;
 use udf_outside::{Access, Bench, Role};
-use udf_rules::check_volume;
-use udf_volume::{LayerStop, open_layout};
+use udf_rules::check_opened;
+use udf_volume::{LayerStop, Opened, open_layout};
 
-// What breaks the rules on the volume of an image, at a block size.
-#[tactic(auto, using(udf_volume::proofs::Openings::open_over, udf_volume::proofs::Openings::of_image))]
+// What breaks the rules on a volume that was opened of the image, and on its files.
+fn examine_opened<B: Bench>(
+    alloc: Global,
+    bench: &mut B,
+    opened: Opened,
+) -> Result<Findings, LayerStop>
+    requires over { IsOpenOver opened (B.files bench.old) }
+    requires size { is_size opened.volume.size ≡ true }
+    requires opened { B.tells → IsOpenedOf (bytes_of Image (B.held bench.old)) opened }
+    ensures answers { B.tells → ExaminesVolume opened.volume (bytes_of Image (B.held bench.old)) result }
+    ensures refusal { IfErr result RefusesCheck }
+    ensures reads { OnlyReads B.files B.held B.faults bench.old bench.new LayerStop.Fault result }
+{
+    let of_volume = check_opened(alloc, bench, &opened)?;
+    let files = files_of(alloc, bench, opened)?;
+    let findings = check_files(alloc, bench, &files, of_volume)?;
+    Ok(findings)
+}
+
+// The same of the volume of an image, at a block size.
+#[tactic(auto, using(udf_volume::proofs::Openings::open_over, udf_volume::proofs::Openings::of_image, udf_model::proofs::Sizes::large))]
 fn examine_at<B: Bench>(
     alloc: Global,
     size: u32,
@@ -29,15 +50,14 @@ fn examine_at<B: Bench>(
     bench: &mut B,
 ) -> Result<Findings, LayerStop>
     requires attached { IsAttached Image (B.files bench.old) }
-    requires large { 512 ≤ size }
+    requires size { is_size size ≡ true }
     requires sized { length ≡ (B.files bench.old).image.size }
     ensures answers { B.tells → ExaminesAt size (bytes_of Image (B.held bench.old)) result }
-    ensures refusal { IfErr result RefusesVolume }
+    ensures refusal { IfErr result RefusesCheck }
     ensures reads { OnlyReads B.files B.held B.faults bench.old bench.new LayerStop.Fault result }
 {
     let opened = open_layout(alloc, bench, size, length)?;
-    let findings = check_volume(alloc, bench, &opened)?;
-    Ok(findings)
+    examine_opened(alloc, bench, opened)
 }
 
 // Reads what a check needs, and answers what breaks the rules.
@@ -51,7 +71,7 @@ fn examine<B: Bench>(
     requires image { (B.files bench.old).image.asked ≡ None }
     requires given { IfSome given (λ size. is_size size ≡ true) }
     ensures answers { B.tells → Examines given (bytes_of Image (B.held bench.old)) result }
-    ensures refusal { IfErr result RefusesVolume }
+    ensures refusal { IfErr result RefusesCheck }
     ensures asked { (B.files bench.new).image.asked ≡ Some Read }
     ensures named { IfSome (B.files bench.new).image.name (λ told. told ≡ medium.now) }
     ensures side { (B.files bench.new).side ≡ (B.files bench.old).side }
@@ -94,7 +114,7 @@ pub(crate) fn check<B: Bench>(
     ensures out { result ≡ Outcome.OutFault → ⊥ }
     ensures usage { (cause : Cause) → result ≡ Outcome.Usage cause → ⊥ }
     ensures other { result ≡ Outcome.SameFile → ⊥ }
-    ensures refused { (missing : Missing) → result ≡ Outcome.Refused missing → IsOfVolume missing }
+    ensures refused { (missing : Missing) → result ≡ Outcome.Refused missing → IsOfCheck missing }
 {
     match examine(alloc, given, medium, bench) {
         Ok(findings) => found(findings),
