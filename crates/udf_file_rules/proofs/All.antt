@@ -1,5 +1,5 @@
 -- What is found of all rules one after another.
-use Rattle.std.proofs.Common.{◌≡◌, List, [], ◌∷◌, ◌++◌, map, refl, sym, ap, ◌∙◌, append_assoc}
+use Rattle.std.proofs.Common.{◌≡◌, List, ◌++◌, map, sym, ap, ◌∙◌, append_assoc}
 use Rattle.udf_file_model.specs.Listing.{Volume}
 use Rattle.udf_tree_model.specs.Frame.{Frame}
 use Rattle.udf_tree.specs.Survey.{View}
@@ -13,14 +13,11 @@ use Rattle.udf_file_rules.specs.Seen.{allocation_along, counts_along, identifier
 use Rattle.udf_file_rules.specs.SeenContents.{contents_along}
 use Rattle.udf_file_rules.specs.SeenLinks.{names_along, targets_along}
 use Rattle.udf_file_rules.specs.Surveyed.{AreSurveyed}
+use Rattle.udf_file_rules.proofs.Along.{map_append}
 use Rattle.udf_file_rules.proofs.Told.{allocation_told, counts_told}
 use Rattle.udf_file_rules.proofs.ToldContents.{contents_told, identifiers_told}
 use Rattle.udf_file_rules.proofs.ToldLinks.{names_told}
 use Rattle.udf_file_rules.proofs.ToldTargets.{targets_told}
-
-pub map_append : {A B : Type 0} (g : A → B) (xs ys : List A) → map g (xs ++ ys) ≡ map g xs ++ map g ys
-map_append g [] ys = refl
-map_append g (x ∷ xs) ys = ap (λ (l : List _). g x ∷ l) (map_append g xs ys)
 
 six : (old t a c n k i : List Finding) → (((((old ++ t) ++ a) ++ c) ++ n) ++ k) ++ i ≡ old ++ (t ++ (a ++ (c ++ (n ++ (k ++ i)))))
 six old t a c n k i =

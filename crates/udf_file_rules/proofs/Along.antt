@@ -10,7 +10,7 @@ use Rattle.udf_tree.specs.declared.node.Node.{Node}
 use Rattle.udf_tree.specs.declared.node.NodeId.{NodeId}
 use Rattle.udf_tree.specs.Nodes.{node_addresses}
 
-map_append : {A B : Type 0} (g : A → B) (xs ys : List A) → map g (xs ++ ys) ≡ map g xs ++ map g ys
+pub map_append : {A B : Type 0} (g : A → B) (xs ys : List A) → map g (xs ++ ys) ≡ map g xs ++ map g ys
 map_append g [] ys = refl
 map_append g (x ∷ xs) ys = ap (λ (l : List _). g x ∷ l) (map_append g xs ys)
 

@@ -1,7 +1,8 @@
 //! The rule on unique identifiers, number 11 (ECMA-167 4/14.9.18, UDF 3.2.1.1).
 //!
-//! Binds: every ordinary entry, which fitted FIDs alone lead to from the root. The root's identifier is 0; another entry's is from 16
-//! on and below 2^63, and none at a lower address has it.
+//! Binds: every ordinary entry, which fitted FIDs alone lead to from the root. It states the identifier that is wanted: the root 0;
+//! another its own, where that is from 16 on and below 2^63 and no ordinary entry at a lower address states it; else the free one
+//! that is its turn in the order of addresses.
 //! Reads: nothing, it works from the survey.
 //! Finds: the entry, with the identifier that it states and the one that is wanted.
 //! Mends: the entry states the wanted identifier.

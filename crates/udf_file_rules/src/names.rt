@@ -1,6 +1,7 @@
 //! The rule on names and links, number 9 (UDF 2.3.4, ECMA-167 4/8.6).
 //!
-//! Binds: every kept directory. Each live FID is the first of its name there and, where it names a directory, the chosen link to it.
+//! Binds: every kept directory. Each live FID is the first of its name there and, where it names a directory that is found, the
+//! chosen link to it; an unsound directory has none.
 //! Reads: nothing, it works from the survey.
 //! Finds: the directory, with the offset of the FID and that of the first of its name where that is an earlier one, else 0.
 //! Mends: the directory holds its mended content.

@@ -8,7 +8,7 @@ use Rattle.udf_rules_model.specs.Findings.{of_files, of_space}
 use Rattle.udf_files.proofs.Placed.{has_set}
 use Rattle.udf_file_rules.specs.Checked.{files_checked}
 use Rattle.udf_file_rules.specs.Surveyed.{AreSurveyed}
-use Rattle.udf_file_rules.proofs.All.{map_append}
+use Rattle.udf_file_rules.proofs.Along.{map_append}
 use Rattle.udf_file_rules.proofs.check.check_files.Goals as goal
 
 pub returns-clause-found : goal.returns-clause-found

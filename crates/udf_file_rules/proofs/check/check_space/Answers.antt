@@ -14,7 +14,7 @@ use Rattle.udf_rules_model.specs.Findings.{of_space, of_space_by}
 use Rattle.udf_rules_model.specs.Integrity.{integrity_findings}
 use Rattle.udf_files.specs.Files.{places_in}
 use Rattle.udf_file_rules.proofs.Freed.{free_counted, is_free_count, partition_stands}
-use Rattle.udf_file_rules.proofs.All.{map_append}
+use Rattle.udf_file_rules.proofs.Along.{map_append}
 use Rattle.udf_file_rules.proofs.check.check_space.Goals as goal
 
 pub check_bitmap-requires-clause-placed : goal.check_bitmap-requires-clause-placed
