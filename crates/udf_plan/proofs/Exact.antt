@@ -28,7 +28,7 @@ use Rattle.udf_volume.specs.declared.opened.Opened.{Opened}
 use Rattle.udf_volume.specs.declared.volume.Volume.{Volume}
 use Rattle.udf_volume.proofs.Described.{Describes, size_is, kept_is, other_is, sparing_of_is}
 use Rattle.udf_volume.proofs.Judged.{bad_is, suffice_is, agrees_is, logical_is}
-use Rattle.udf_plan.specs.Wanted.{LookAlike, changed}
+use Rattle.udf_wanted.specs.Wanted.{LookAlike, changed}
 use Rattle.udf_plan.specs.Stated.{copies_at, anchors_stated, copied_stated, sequence_stated}
 
 -- two facts on what a call gives

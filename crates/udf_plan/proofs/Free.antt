@@ -22,7 +22,7 @@ use Rattle.udf_volume.specs.declared.volume.Which.{Which}
 use Rattle.udf_volume.specs.declared.volume.Which.TheVariants.{Main, Reserve}
 use Rattle.udf_volume.proofs.Parts.{all_of_part}
 use Rattle.udf_blocks.specs.PlanFor.{sealed_stated}
-use Rattle.udf_plan.specs.Writable.{is_free, AreFree}
+use Rattle.udf_wanted.specs.Writable.{is_free, AreFree}
 use Rattle.udf_plan.proofs.Rooms.{fits, end_inside}
 
 all_passed : (p q : ℕ → Bool) (xs : List ℕ) → ((n : ℕ) → p n ≡ true → q n ≡ true) → list_all q (filter p xs) ≡ true

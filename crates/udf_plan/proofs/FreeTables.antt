@@ -15,7 +15,7 @@ use Rattle.udf_volume.specs.Spans.{span_by}
 use Rattle.udf_volume.specs.declared.volume.Volume.{Volume}
 use Rattle.udf_volume.specs.declared.volume.Which.{Which}
 use Rattle.udf_volume.specs.declared.volume.Which.TheVariants.{Main, Reserve}
-use Rattle.udf_plan.specs.Writable.{is_free, AreFreeFrom}
+use Rattle.udf_wanted.specs.Writable.{is_free, AreFreeFrom}
 use Rattle.udf_plan.proofs.Free.{free_beside}
 
 module _ (volume : Volume) (b : IsBounded volume.size volume.blocks volume) (laid : IsLaidOut volume) where

@@ -1,9 +1,7 @@
-pub mod Looking
-pub mod Keeping
+pub mod Copying
 pub mod Terminators
 pub mod Rooms
 pub mod Free
-pub mod Walking
 pub mod Stating
 pub mod Exact
 pub mod TableCopies

@@ -8,9 +8,9 @@ use Rattle.udf_volume.specs.Spans.{kept_span, other_span}
 use Rattle.udf_volume.specs.Verdicts.{bad_stated, anchors_suffice, sequences_agree_in}
 use Rattle.udf_volume.specs.declared.volume.Volume.{Volume}
 use Rattle.udf_volume.specs.declared.opened.Opened.{Opened}
-use Rattle.udf_plan.specs.Wanted.{LookAlike}
+use Rattle.udf_wanted.specs.Wanted.{LookAlike}
 use Rattle.udf_plan.specs.Stated.{copies_at, moved, anchors_stated, copied_stated, sequence_stated}
-use Rattle.udf_plan.proofs.Looking.{nothing, both_are}
+use Rattle.udf_wanted.proofs.Looking.{nothing, both_are}
 
 module _ (opened : Opened) (image : List ℕ) (wanted : List (ℕ × List ℕ)) where
   pub no_anchors : true ≡ anchors_suffice opened.volume opened.layout image → LookAlike wanted (wanted ++ anchors_stated opened image)

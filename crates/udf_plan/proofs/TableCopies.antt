@@ -14,10 +14,10 @@ use Rattle.udf_layer.specs.Fronts.{table_bytes}
 use Rattle.udf_layer.proofs.AreaFronts.{bytes_are}
 use Rattle.udf_layer.proofs.TableBytes.{bytes_count}
 use Rattle.udf_volume.specs.declared.volume.Volume.{Volume}
-use Rattle.udf_plan.specs.Wanted.{LookAlike}
-use Rattle.udf_plan.specs.Writable.{AreFreeFrom}
-use Rattle.udf_plan.proofs.Looking.{nothing}
-use Rattle.udf_plan.proofs.Walking.{free_inside}
+use Rattle.udf_wanted.specs.Wanted.{LookAlike}
+use Rattle.udf_wanted.specs.Writable.{AreFreeFrom}
+use Rattle.udf_wanted.proofs.Looking.{nothing}
+use Rattle.udf_wanted.proofs.Walking.{free_inside}
 
 -- one block more that is cut
 pub one_cut : (size at count : ℕ) (bytes : List ℕ)

@@ -17,8 +17,8 @@ use Rattle.udf_layer.specs.declared.agreement.TableVerdict.{TableVerdict}
 use Rattle.udf_volume.specs.Areas.{sparing_seen}
 use Rattle.udf_volume.specs.Verdicts.{JudgesTables, prevailing_by, deviations_of}
 use Rattle.udf_volume.specs.declared.volume.Volume.{Volume}
-use Rattle.udf_plan.specs.Wanted.{LookAlike}
-use Rattle.udf_plan.proofs.Looking.{nothing}
+use Rattle.udf_wanted.specs.Wanted.{LookAlike}
+use Rattle.udf_wanted.proofs.Looking.{nothing}
 use Rattle.udf_plan.proofs.TableCopies.{blocks_are, bytes_end}
 
 -- a table's copy over the image that was judged

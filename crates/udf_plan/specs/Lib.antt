@@ -1,4 +1,1 @@
-pub mod Kept
-pub mod Wanted
-pub mod Writable
 pub mod Stated

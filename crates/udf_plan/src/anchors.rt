@@ -9,15 +9,15 @@ ghost use Rattle.udf_outside.specs.declared.bench.Role.TheVariants.{Image};
 ghost use Rattle.udf_volume.specs.Over.{IsOver};
 ghost use Rattle.udf_volume.specs.Taken.{IsOpenOver};
 ghost use Rattle.udf_plan.specs.Stated.{copies_at, anchors_stated};
-ghost use Rattle.udf_plan.specs.Wanted.{LookAlike};
-ghost use Rattle.udf_plan.specs.Writable.{AreFree, AreWritable};
+ghost use Rattle.udf_wanted.specs.Wanted.{LookAlike};
+ghost use Rattle.udf_wanted.specs.Writable.{AreFree, AreWritable};
 
 use crate::WorkStop;
 use crate::copy::put_copy;
-use crate::wanted::Wanted;
 use std::alloc::Global;
 use udf_outside::Bench;
 use udf_volume::{Opened, Volume, anchor_verdict};
+use udf_wanted::Wanted;
 
 // Puts the kept anchor's block at places.
 fn put_at_places<B: Bench>(

@@ -4,14 +4,14 @@ ghost use Rattle.udf_model.specs.Tag.{relocated};
 ghost use Rattle.udf_outside.specs.Reads.{OnlyReads};
 ghost use Rattle.udf_outside.specs.Sectors.{disk_of};
 ghost use Rattle.udf_volume.specs.Over.{IsOver};
-ghost use Rattle.udf_plan.specs.Wanted.{LookAlike};
-ghost use Rattle.udf_plan.specs.Writable.{AreWritable, is_free};
+ghost use Rattle.udf_wanted.specs.Wanted.{LookAlike};
+ghost use Rattle.udf_wanted.specs.Writable.{AreWritable, is_free};
 
 use crate::WorkStop;
-use crate::wanted::Wanted;
 use udf_field::relocate;
 use udf_outside::{Bench, read_block};
 use udf_volume::Volume;
+use udf_wanted::Wanted;
 
 /// Puts the copy of a block at another sector, relocated. `block` is lent and has the block size.
 pub(crate) fn put_copy<B: Bench>(

@@ -6,13 +6,10 @@
 
 mod anchors;
 mod copy;
-mod difference;
-mod plan;
 mod sequence;
 mod tables;
 mod terminator;
 mod volume;
-mod wanted;
 
 pub use udf_blocks::Plan;
 pub use udf_outside::NoMemory;

@@ -10,17 +10,17 @@ ghost use Rattle.udf_volume_model.specs.Mended.{end_block};
 ghost use Rattle.udf_volume.specs.Over.{IsOver};
 ghost use Rattle.udf_volume.specs.Laid.{IsLaidOut};
 ghost use Rattle.udf_plan.specs.Stated.{moved, copied_stated, sequence_stated};
-ghost use Rattle.udf_plan.specs.Wanted.{LookAlike};
-ghost use Rattle.udf_plan.specs.Writable.{AreFreeFrom, AreWritable};
+ghost use Rattle.udf_wanted.specs.Wanted.{LookAlike};
+ghost use Rattle.udf_wanted.specs.Writable.{AreFreeFrom, AreWritable};
 
 use crate::WorkStop;
 use crate::copy::put_copy;
 use crate::terminator::write_terminator;
-use crate::wanted::Wanted;
 use std::alloc::Global;
 use udf_field::{relocate, whole_id};
 use udf_outside::{Bench, read_block};
 use udf_volume::{TERMINATING, Volume, sequence_verdict};
+use udf_wanted::Wanted;
 
 // Puts the copies of the kept descriptors, from one sector on, at another sector on.
 fn put_copies<B: Bench>(

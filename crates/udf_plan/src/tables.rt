@@ -10,16 +10,16 @@ ghost use Rattle.udf_volume_model.specs.SparingTable.{table_end};
 ghost use Rattle.udf_volume.specs.Areas.{sparing_seen};
 ghost use Rattle.udf_volume.specs.Laid.{IsLaidOut};
 ghost use Rattle.udf_volume.specs.Over.{IsOver};
-ghost use Rattle.udf_plan.specs.Wanted.{LookAlike};
-ghost use Rattle.udf_plan.specs.Writable.{AreFreeFrom, AreWritable};
+ghost use Rattle.udf_wanted.specs.Wanted.{LookAlike};
+ghost use Rattle.udf_wanted.specs.Writable.{AreFreeFrom, AreWritable};
 
-use crate::wanted::Wanted;
 use crate::{NoMemory, WorkStop};
 use std::alloc::Global;
 use udf_field::{relocate, retag};
 use udf_layer::{coverable_bytes, covered_bytes};
 use udf_outside::{Bench, Role};
 use udf_volume::{Deviation, Volume, table_verdict};
+use udf_wanted::Wanted;
 
 // The blocks that some bytes take.
 #[tactic(auto, unfolding(udf_volume_model::specs::Anchor::blocks_for))]

@@ -9,14 +9,13 @@ ghost use Rattle.udf_volume.specs.Taken.{IsOpenOver, IsOpenedOf};
 ghost use Rattle.udf_blocks.specs.PlanFor.{IsPlanFor};
 
 use crate::anchors::put_anchors;
-use crate::plan::plan_wanted;
 use crate::sequence::put_sequence;
 use crate::tables::put_tables;
-use crate::wanted::Wanted;
 use crate::{Plan, WorkStop};
 use std::alloc::Global;
 use udf_outside::Bench;
 use udf_volume::Opened;
+use udf_wanted::{Wanted, plan_wanted};
 
 /// The blocks in which the mended image differs from the image, for the rules on sequences, anchors and sparing tables.
 pub fn plan_volume<B: Bench>(

@@ -1,7 +1,7 @@
 use Rattle.std.proofs.Common.{ℕ, List, sym, ap, subst, ◌∙◌}
 use Rattle.udf_outside.specs.Stops.{Held, bytes_of}
 use Rattle.udf_outside.specs.declared.bench.Role.TheVariants.{Image}
-use Rattle.udf_plan.specs.Writable.{AreFree}
+use Rattle.udf_wanted.specs.Writable.{AreFree}
 use Rattle.udf_plan.proofs.Free.{bad_free}
 use Rattle.udf_plan.proofs.Stating.{no_anchors, anchors_put}
 use Rattle.udf_plan.proofs.anchors.put_anchors.Goals as goal

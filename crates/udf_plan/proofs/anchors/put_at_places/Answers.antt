@@ -4,9 +4,10 @@ use Rattle.udf_model.specs.Tag.{relocated}
 use Rattle.udf_outside.specs.Stops.{Held}
 use Rattle.udf_outside.specs.Sectors.{disk_of}
 use Rattle.udf_plan.specs.Stated.{copies_at}
-use Rattle.udf_plan.specs.Wanted.{LookAlike}
-use Rattle.udf_plan.specs.Writable.{is_free}
-use Rattle.udf_plan.proofs.Looking.{none_copied, one_copied, both_are}
+use Rattle.udf_wanted.specs.Wanted.{LookAlike}
+use Rattle.udf_wanted.specs.Writable.{is_free}
+use Rattle.udf_wanted.proofs.Looking.{both_are}
+use Rattle.udf_plan.proofs.Copying.{none_copied, one_copied}
 use Rattle.udf_plan.proofs.anchors.put_at_places.Goals as goal
 
 pub loop-place-init : goal.loop-place-init

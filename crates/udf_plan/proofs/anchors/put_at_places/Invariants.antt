@@ -1,8 +1,8 @@
 use Rattle.std.proofs.Common.{◌≡◌, ◌++◌, take}
 use Rattle.udf_outside.specs.Sectors.{disk_of}
 use Rattle.udf_plan.specs.Stated.{copies_at}
-use Rattle.udf_plan.specs.Wanted.{LookAlike}
-use Rattle.udf_plan.specs.Writable.{AreWritable}
+use Rattle.udf_wanted.specs.Wanted.{LookAlike}
+use Rattle.udf_wanted.specs.Writable.{AreWritable}
 use Rattle.udf_plan.proofs.anchors.put_at_places.Given as goal
 
 abbrev pub invariant-loop-place : goal.invariant-loop-place

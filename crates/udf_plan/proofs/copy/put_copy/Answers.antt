@@ -1,8 +1,8 @@
 use Rattle.std.proofs.Common.{◌≡◌, ◌++◌, ◌∷◌, [], length, rules, ap, ◌∙◌, subst}
 use Rattle.udf_model.specs.Tag.{relocated}
-use Rattle.udf_plan.specs.Wanted.{LookAlike}
-use Rattle.udf_plan.specs.Writable.{is_writable}
-use Rattle.udf_plan.proofs.Walking.{writable}
+use Rattle.udf_wanted.specs.Wanted.{LookAlike}
+use Rattle.udf_wanted.specs.Writable.{is_writable}
+use Rattle.udf_wanted.proofs.Walking.{writable}
 use Rattle.udf_plan.proofs.copy.put_copy.Goals as goal
 
 pub returns-clause-put : goal.returns-clause-put

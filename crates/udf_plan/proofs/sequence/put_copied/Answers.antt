@@ -3,11 +3,11 @@ use Rattle.udf_field.specs.declared.address.Span.{Span}
 use Rattle.udf_outside.specs.Stops.{Held, bytes_of}
 use Rattle.udf_outside.specs.declared.bench.Role.TheVariants.{Image}
 use Rattle.udf_volume.specs.Spans.{opposite}
-use Rattle.udf_plan.specs.Writable.{is_writable}
+use Rattle.udf_wanted.specs.Writable.{is_writable}
 use Rattle.udf_plan.proofs.Rooms.{last_inside}
 use Rattle.udf_plan.proofs.Free.{copy_free}
 use Rattle.udf_plan.proofs.Stating.{copied_put}
-use Rattle.udf_plan.proofs.Walking.{writable}
+use Rattle.udf_wanted.proofs.Walking.{writable}
 use Rattle.udf_plan.proofs.sequence.put_copied.Goals as goal
 
 pub put_copies-requires-clause-inside : goal.put_copies-requires-clause-inside

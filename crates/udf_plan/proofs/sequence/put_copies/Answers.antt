@@ -3,9 +3,10 @@ use Rattle.udf_model.specs.Tag.{relocated}
 use Rattle.udf_outside.specs.Stops.{Held}
 use Rattle.udf_outside.specs.Sectors.{disk_of}
 use Rattle.udf_plan.specs.Stated.{moved}
-use Rattle.udf_plan.specs.Wanted.{LookAlike}
-use Rattle.udf_plan.proofs.Looking.{none_moved, one_moved, both_are}
-use Rattle.udf_plan.proofs.Walking.{free_inside}
+use Rattle.udf_wanted.specs.Wanted.{LookAlike}
+use Rattle.udf_wanted.proofs.Looking.{both_are}
+use Rattle.udf_plan.proofs.Copying.{none_moved, one_moved}
+use Rattle.udf_wanted.proofs.Walking.{free_inside}
 use Rattle.udf_plan.proofs.sequence.put_copies.Goals as goal
 
 pub loop-i-init : goal.loop-i-init

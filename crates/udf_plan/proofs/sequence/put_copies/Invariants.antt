@@ -1,8 +1,8 @@
 use Rattle.std.proofs.Common.{◌≡◌, ◌++◌}
 use Rattle.udf_outside.specs.Sectors.{disk_of}
 use Rattle.udf_plan.specs.Stated.{moved}
-use Rattle.udf_plan.specs.Wanted.{LookAlike}
-use Rattle.udf_plan.specs.Writable.{AreWritable}
+use Rattle.udf_wanted.specs.Wanted.{LookAlike}
+use Rattle.udf_wanted.specs.Writable.{AreWritable}
 use Rattle.udf_plan.proofs.sequence.put_copies.Given as goal
 
 abbrev pub invariant-loop-i : goal.invariant-loop-i

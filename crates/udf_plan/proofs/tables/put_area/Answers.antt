@@ -2,11 +2,11 @@ use Rattle.std.proofs.Common.{◌≡◌, ◌+◌, ◌-◌, ◌*◌, ◌<◌, ◌
 use Rattle.std.proofs.Math.Nat.{mul-le-mul_right}
 use Rattle.std.proofs.lemmas.List.{length-take-le}
 use Rattle.udf_volume_model.specs.SparingRule.{blocks_cut}
-use Rattle.udf_plan.specs.Wanted.{LookAlike}
-use Rattle.udf_plan.specs.Writable.{is_writable}
-use Rattle.udf_plan.proofs.Looking.{both_are}
+use Rattle.udf_wanted.specs.Wanted.{LookAlike}
+use Rattle.udf_wanted.specs.Writable.{is_writable}
+use Rattle.udf_wanted.proofs.Looking.{both_are}
 use Rattle.udf_plan.proofs.TableCopies.{none_cut, one_cut}
-use Rattle.udf_plan.proofs.Walking.{free_inside, writable}
+use Rattle.udf_wanted.proofs.Walking.{free_inside, writable}
 use Rattle.udf_plan.proofs.tables.put_area.Goals as goal
 
 pub loop-i-init : goal.loop-i-init

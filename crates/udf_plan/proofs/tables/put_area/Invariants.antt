@@ -1,7 +1,7 @@
 use Rattle.std.proofs.Common.{◌++◌}
 use Rattle.udf_volume_model.specs.SparingRule.{blocks_cut}
-use Rattle.udf_plan.specs.Wanted.{LookAlike}
-use Rattle.udf_plan.specs.Writable.{AreWritable}
+use Rattle.udf_wanted.specs.Wanted.{LookAlike}
+use Rattle.udf_wanted.specs.Writable.{AreWritable}
 use Rattle.udf_plan.proofs.tables.put_area.Given as goal
 
 abbrev pub invariant-loop-i : goal.invariant-loop-i

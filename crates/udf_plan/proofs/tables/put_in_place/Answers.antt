@@ -4,7 +4,7 @@ use Rattle.udf_outside.specs.Stops.{Held, bytes_of}
 use Rattle.udf_outside.specs.declared.bench.Role.TheVariants.{Image}
 use Rattle.udf_outside.specs.Sectors.{disk_of}
 use Rattle.udf_volume_model.specs.SparingRule.{table_blocks}
-use Rattle.udf_plan.proofs.Looking.{nothing, both_are}
+use Rattle.udf_wanted.proofs.Looking.{nothing, both_are}
 use Rattle.udf_plan.proofs.TablesStated.{one_copied, over_same}
 use Rattle.udf_plan.proofs.tables.put_in_place.Goals as goal
 

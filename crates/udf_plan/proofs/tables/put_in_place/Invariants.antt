@@ -2,8 +2,8 @@ use Rattle.std.proofs.Common.{◌≡◌, ◌++◌, take}
 use Rattle.std.specs.List.{flat_map}
 use Rattle.udf_outside.specs.Sectors.{disk_of}
 use Rattle.udf_volume_model.specs.SparingRule.{table_blocks}
-use Rattle.udf_plan.specs.Wanted.{LookAlike}
-use Rattle.udf_plan.specs.Writable.{AreWritable}
+use Rattle.udf_wanted.specs.Wanted.{LookAlike}
+use Rattle.udf_wanted.specs.Writable.{AreWritable}
 use Rattle.udf_plan.proofs.tables.put_in_place.Given as goal
 
 abbrev pub invariant-loop-other : goal.invariant-loop-other

@@ -3,7 +3,7 @@ use Rattle.std.proofs.lemmas.List.{take_at}
 use Rattle.udf_outside.specs.Stops.{bytes_of}
 use Rattle.udf_outside.specs.declared.bench.Role.TheVariants.{Image}
 use Rattle.udf_volume_laws.proofs.Cut.{blocks_hold}
-use Rattle.udf_plan.specs.Wanted.{LookAlike}
+use Rattle.udf_wanted.specs.Wanted.{LookAlike}
 use Rattle.udf_plan.proofs.TableCopies.{few_bytes, inside, laid_blocks}
 use Rattle.udf_plan.proofs.tables.put_table.Goals as goal
 

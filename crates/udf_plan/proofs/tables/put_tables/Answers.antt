@@ -7,7 +7,7 @@ use Rattle.udf_outside.specs.declared.bench.Role.TheVariants.{Image}
 use Rattle.udf_volume_model.specs.Anchor.{blocks_for}
 use Rattle.udf_volume_model.specs.SparingRule.{table_blocks}
 use Rattle.udf_layer.specs.declared.agreement.Deviation.{Deviation}
-use Rattle.udf_plan.specs.Writable.{AreFreeFrom}
+use Rattle.udf_wanted.specs.Writable.{AreFreeFrom}
 use Rattle.udf_plan.proofs.FreeTables.{tables_free}
 use Rattle.udf_plan.proofs.TablesStated.{if_some, none_covered, not_coverable, put_as, put_over}
 use Rattle.udf_plan.proofs.tables.put_tables.Goals as goal

@@ -11,9 +11,9 @@ use Rattle.udf_volume.specs.Areas.{sparing_seen}
 use Rattle.udf_volume.proofs.Protected.{opened_is}
 use Rattle.udf_volume.proofs.Described.{opened_ok}
 use Rattle.udf_blocks.specs.PlanFor.{IsPlanFor}
-use Rattle.udf_plan.specs.Wanted.{LookAlike, changed}
+use Rattle.udf_wanted.specs.Wanted.{LookAlike, changed}
 use Rattle.udf_plan.specs.Stated.{sequence_stated, anchors_stated}
-use Rattle.udf_plan.proofs.Looking.{both}
+use Rattle.udf_wanted.proofs.Looking.{both}
 use Rattle.udf_plan.proofs.Exact.{exact, ok_both}
 use Rattle.udf_plan.proofs.volume.plan_volume.Goals as goal
 

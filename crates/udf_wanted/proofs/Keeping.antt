@@ -14,8 +14,8 @@ use Rattle.std.proofs.lemmas.Map.Iter.{rest_more}
 use Rattle.udf_volume_model.specs.Edits.{look}
 use Rattle.udf_volume_model.specs.Plans.{ClimbsFrom}
 use Rattle.udf_volume_laws.proofs.Puts.{look_both}
-use Rattle.udf_plan.specs.Kept.{kept}
-use Rattle.udf_plan.specs.Wanted.{LookAlike}
+use Rattle.udf_wanted.specs.Kept.{kept}
+use Rattle.udf_wanted.specs.Wanted.{LookAlike}
 
 abbrev Blocks : Type 0
 Blocks = BTreeMap ℕ (Vec ℕ Global)

@@ -13,8 +13,8 @@ use Rattle.udf_volume_laws.proofs.Same.{bytes_same}
 use Rattle.udf_volume.specs.declared.volume.Volume.{Volume}
 use Rattle.udf_blocks.specs.Planned.{Planned, IsLawful, are_at, are_below}
 use Rattle.udf_blocks.specs.PlanFor.{sealed_stated, IsPlanFor}
-use Rattle.udf_plan.specs.Wanted.{differing, changed}
-use Rattle.udf_plan.specs.Writable.{is_free, is_writable, AreWritable}
+use Rattle.udf_wanted.specs.Wanted.{differing, changed}
+use Rattle.udf_wanted.specs.Writable.{is_free, is_writable, AreWritable}
 
 -- a block that was compared
 pub nothing_added : (plan : Planned) (sector : ℕ) (now wanted : List ℕ) → bytes_eq now wanted ≡ true

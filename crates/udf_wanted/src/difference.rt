@@ -2,7 +2,7 @@
 ghost use Rattle.std.specs.Prelude.{◌≡◌, ◌<◌, ◌++◌, ◌∷◌, [], length, OnOk, true};
 ghost use Rattle.std.specs.Str.{bytes_eq};
 ghost use Rattle.udf_blocks.specs.Planned.{are_below};
-ghost use Rattle.udf_plan.specs.Wanted.{differing};
+ghost use Rattle.udf_wanted.specs.Wanted.{differing};
 
 use crate::{NoMemory, Plan};
 

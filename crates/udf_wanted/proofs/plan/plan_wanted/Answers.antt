@@ -6,13 +6,13 @@ use Rattle.udf_outside.specs.Files.{Files}
 use Rattle.udf_volume_model.specs.Plans.{planned, ClimbsFrom}
 use Rattle.udf_blocks.specs.Planned.{Planned, IsLawful}
 use Rattle.udf_blocks.proofs.Growing.{none}
-use Rattle.udf_plan.specs.Kept.{kept}
-use Rattle.udf_plan.specs.Wanted.{differing}
-use Rattle.udf_plan.specs.Writable.{AreWritable}
-use Rattle.udf_plan.proofs.Keeping.{kept_climbs, next_kept}
-use Rattle.udf_plan.proofs.Walking.{next_fits, next_above, next_climbs, next_all, next_added, plan_for, looked_up, fits_image, all_added}
-use Rattle.udf_plan.specs.Writable.{is_writable}
-use Rattle.udf_plan.proofs.plan.plan_wanted.Goals as goal
+use Rattle.udf_wanted.specs.Kept.{kept}
+use Rattle.udf_wanted.specs.Wanted.{differing}
+use Rattle.udf_wanted.specs.Writable.{AreWritable}
+use Rattle.udf_wanted.proofs.Keeping.{kept_climbs, next_kept}
+use Rattle.udf_wanted.proofs.Walking.{next_fits, next_above, next_climbs, next_all, next_added, plan_for, looked_up, fits_image, all_added}
+use Rattle.udf_wanted.specs.Writable.{is_writable}
+use Rattle.udf_wanted.proofs.plan.plan_wanted.Goals as goal
 
 pub loop-sector-init : goal.loop-sector-init
 loop-sector-init g c =

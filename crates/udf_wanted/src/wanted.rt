@@ -1,7 +1,7 @@
 //! The blocks that rules want on an image. They are put in any order, and of two at a sector the first counts.
 ghost use Rattle.std.specs.Prelude.{◌≡◌, ℕ, Bool, true, ◌++◌, ◌∷◌, [], List, OnOk};
 ghost use Rattle.std.specs.List.{list_all};
-ghost use Rattle.udf_plan.specs.Wanted.{LookAlike};
+ghost use Rattle.udf_wanted.specs.Wanted.{LookAlike};
 
 use std::alloc::{AllocError, Global};
 use std::collections::BTreeMap;
@@ -9,14 +9,14 @@ use std::marker::Model;
 
 /// Wanted blocks, seen as the list of their sectors with the blocks, by ascending sectors.
 #[derive(Drop)]
-pub(crate) struct Wanted {
+pub struct Wanted {
     alloc: Global,
     pub(crate) blocks: BTreeMap<u32, Vec<u8>>,
 }
 
 impl Model for Wanted {
     ghost use Rattle.std.specs.Prelude.{ℕ, List};
-    ghost use Rattle.udf_plan.specs.Kept.{kept};
+    ghost use Rattle.udf_wanted.specs.Kept.{kept};
 
     ghost Value = { List (ℕ × List ℕ) };
 

@@ -2,10 +2,10 @@ use Rattle.std.proofs.Common.{◌≡◌, ◌++◌}
 use Rattle.udf_outside.specs.Sectors.{disk_of}
 use Rattle.udf_volume_model.specs.Plans.{ClimbsFrom}
 use Rattle.udf_blocks.specs.Planned.{IsLawful}
-use Rattle.udf_plan.specs.Kept.{kept}
-use Rattle.udf_plan.specs.Wanted.{differing}
-use Rattle.udf_plan.specs.Writable.{AreWritable}
-use Rattle.udf_plan.proofs.plan.plan_wanted.Given as goal
+use Rattle.udf_wanted.specs.Kept.{kept}
+use Rattle.udf_wanted.specs.Wanted.{differing}
+use Rattle.udf_wanted.specs.Writable.{AreWritable}
+use Rattle.udf_wanted.proofs.plan.plan_wanted.Given as goal
 
 abbrev pub invariant-loop-sector : goal.invariant-loop-sector
 invariant-loop-sector g l = record {

@@ -1,9 +1,9 @@
 use Rattle.std.proofs.Common.{◌≡◌, ◌++◌, ◌∷◌, [], ℕ, List, rules, sym, ◌∙◌, ap, subst}
 use Rattle.std.specs.List.{list_all}
-use Rattle.udf_plan.specs.Kept.{kept}
-use Rattle.udf_plan.specs.Wanted.{LookAlike}
-use Rattle.udf_plan.proofs.Keeping.{stays, comes, among}
-use Rattle.udf_plan.proofs.wanted.Wanted.put.Goals as goal
+use Rattle.udf_wanted.specs.Kept.{kept}
+use Rattle.udf_wanted.specs.Wanted.{LookAlike}
+use Rattle.udf_wanted.proofs.Keeping.{stays, comes, among}
+use Rattle.udf_wanted.proofs.wanted.Wanted.put.Goals as goal
 
 pub returns-then-contains_key-clause-put : goal.returns-then-contains_key-clause-put
 returns-then-contains_key-clause-put c =

@@ -6,8 +6,8 @@ ghost use Rattle.udf_volume_model.specs.Edits.{look};
 ghost use Rattle.udf_volume_model.specs.Plans.{planned};
 ghost use Rattle.udf_volume.specs.Over.{IsOver};
 ghost use Rattle.udf_blocks.specs.PlanFor.{IsPlanFor};
-ghost use Rattle.udf_plan.specs.Wanted.{changed};
-ghost use Rattle.udf_plan.specs.Writable.{AreWritable};
+ghost use Rattle.udf_wanted.specs.Wanted.{changed};
+ghost use Rattle.udf_wanted.specs.Writable.{AreWritable};
 
 use crate::difference::add_difference;
 use crate::wanted::Wanted;
@@ -17,7 +17,7 @@ use udf_outside::{Bench, read_block};
 use udf_volume::Volume;
 
 /// The wanted blocks that differ from the image's. `block` is lent and has the block size.
-pub(crate) fn plan_wanted<B: Bench>(
+pub fn plan_wanted<B: Bench>(
     alloc: Global,
     bench: &mut B,
     volume: &Volume,
