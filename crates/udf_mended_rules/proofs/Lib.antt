@@ -1,0 +1,9 @@
+pub mod Settled
+pub mod Keepers
+pub mod Contents
+pub mod Rules
+pub mod Free
+pub mod Linked
+pub mod Alike
+pub mod FileSet
+pub mod Space

@@ -1,0 +1,4 @@
+pub mod Spread
+pub mod SlotMend
+pub mod BitmapMend
+pub mod IntegrityMend
