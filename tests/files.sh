@@ -211,6 +211,62 @@ V3 -:96 0 5
 udffsck: a.img: 2 broken"
 fresh; truncate -s 524388 a.img; check 'a trailing part block' 0 "$clean"
 
+# --- checks of files ---
+
+# poke BLOCK OFFSET BYTE..: puts bytes into a block, in decimal
+poke() {
+    place=$(($1 * size + $2))
+    shift 2
+    for byte in "$@"; do printf "\\$(octal "$byte")"; done | dd of=a.img bs=1 seek="$place" conv=notrunc 2>/dev/null
+}
+
+# peek BLOCK OFFSET COUNT: so many bytes of a block, in decimal
+peek() { od -An -v -tu1 -j $(($1 * size + $2)) -N "$3" a.img; }
+
+# retag BLOCK OFFSET COUNT: the tag there gets a CRC over so many bytes behind it, and its checksum (ECMA-167 3/7.2)
+retag() {
+    crc=0
+    for byte in $(peek "$1" $(($2 + 16)) "$3"); do
+        crc=$((crc ^ byte << 8))
+        for _ in 1 2 3 4 5 6 7 8; do crc=$(((crc << 1 ^ (crc >> 15) * 4129) & 65535)); done
+    done
+    poke "$1" $(($2 + 8)) "$crc" $((crc / 256)) "$3" $(($3 / 256))
+    poke "$1" $(($2 + 4)) 0
+    sum=0
+    for byte in $(peek "$1" "$2" 16); do sum=$((sum + byte)); done
+    poke "$1" $(($2 + 4)) "$sum"
+}
+
+# named CHARACTERISTICS BLOCK: the root, whose entry is in block 259, gets the name `a` of a block behind its parent
+named() {
+    poke 259 256 1 1 3 0 0 0 1 0 0 0 0 0 2 0 0 0 1 0 "$1" 2 0 2 0 0 "$2" 0 0 0 0 0 0 0 0 0 0 0 0 0 8 97
+    retag 259 256 24
+    for field in 56 64 212; do poke 259 "$field" 80; done
+    retag 259 0 280
+}
+
+# found NAME FINDING: a check of the damaged copy tells this alone, and writes nothing
+found() {
+    keep
+    check "$1" 4 "$2
+$broken"
+    holds 'the image is not written' is_kept a.img
+}
+
+fresh; zero 64 12; found 'recognition sequence zero' 'V1 -:64 0 3'
+fresh; named 0 3; found 'a name of a free block' 'V6 0:2 40 3'
+fresh; poke 259 56 41; retag 259 0 240; found 'an embedded root longer than its space' 'V7 0:2 41 40'
+fresh; for field in 56 64 212; do poke 259 "$field" 44; done; retag 259 0 244; found 'four bytes behind the names' 'V8 0:2 44 40'
+fresh; named 2 2; found 'the root in itself' 'V9 0:2 40 0'
+fresh; poke 259 48 3; retag 259 0 240; found 'a link count too high' 'V10 0:2 3 1'
+fresh; poke 259 200 5; retag 259 0 240; found 'an identifier of the root' 'V11 0:2 5 0'
+fresh; poke 257 36 239; found 'a free block stated as used' 'V12 0:0 1 747'
+fresh; poke 112 28 0; retag 112 0 118; found 'an open volume' 'V13 -:112 0 16'
+fresh; poke 112 33 2; retag 112 0 118; check 'a further integrity extent' 4 'udffsck: a.img: refused, Profile IntegrityChain'
+fresh; zero 258 1; check 'file set zero' 4 'udffsck: a.img: refused, FileSet'
+fresh; poke 259 20 0 16; retag 259 0 240; check 'a root of strategy 4096' 4 'udffsck: a.img: refused, Profile Strategy'
+fresh; zero 259 1; check 'root zero' 4 'udffsck: a.img: refused, RootDirectory'
+
 # --- repairs ---
 
 fresh; unwritten 'repair of the sample volume' 0 "$clean"

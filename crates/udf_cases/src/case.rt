@@ -10,7 +10,7 @@ use crate::run::bench_of;
 use crate::side::side_of;
 use crate::trial::{Trial, Wanted};
 use crate::trouble::{cut_of, failure_of};
-use crate::volume::{size_of, volume_named};
+use crate::volume::{ground_of, size_of, volume_named};
 use crate::words::{byte, number, part, small, words_of};
 use sha2::{Digest, Sha256};
 use std::alloc::{AllocError, Global};
@@ -51,7 +51,7 @@ fn block_size(case: Case<'_>) -> u32
 fn hurt_volume(alloc: Global, case: Case<'_>, damages: &str) -> Result<Vec<u8>, AllocError> {
     let volume = part(case.image, ' ', 0);
     let mut image = volume_named(alloc, volume)?;
-    hurt_by(&mut image, size_of(volume), damages);
+    hurt_by(&mut image, ground_of(volume), damages);
     Ok(image)
 }
 

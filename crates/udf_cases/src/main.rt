@@ -7,7 +7,7 @@
 //! 1. its name;
 //! 2. the words of the command line, the tool's name first. `''` is an empty word, and `~` a blank in a word. `digest` prints the
 //!    SHA-256 of the image instead, and `volume` what the image's volume states;
-//! 3. the image: a volume (`volume.rt`) and damages to it (`damage.rt`);
+//! 3. the image: a volume (`volume.rt`) and damages to it (`damage.rt`): bytes, and files in words;
 //! 4. the log that a repair leaves (`log.rt`);
 //! 5. what the side file holds at the start (`side.rt`);
 //! 6. the trouble of the first run (`trouble.rt`);
@@ -17,13 +17,17 @@
 //! another with the same words over what a stop would then leave, up to two times.
 #![tactic(auto)]
 
+mod block;
 mod case;
 mod damage;
+mod directory;
+mod entry;
 mod every;
 mod log;
 mod rounds;
 mod run;
 mod side;
+mod space;
 mod told;
 mod trial;
 mod trouble;

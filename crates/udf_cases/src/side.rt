@@ -4,14 +4,8 @@
 ghost use Rattle.std.specs.Prelude.{◌<◌};
 
 use crate::log::{add_log, open};
-use crate::words::{byte, number, part};
+use crate::words::{byte, fill, number, part};
 use std::alloc::{AllocError, Global};
-
-fn put(side: &mut Vec<u8>, at: usize, bytes: &[u8]) {
-    for (place, byte) in side.iter_mut().skip(at).zip(bytes) {
-        *place = *byte;
-    }
-}
 
 fn flip(side: &mut Vec<u8>) {
     for byte in side.iter_mut() {
@@ -31,8 +25,8 @@ fn alter(side: &mut Vec<u8>, word: &str) {
     let at = number(word, 1) as usize;
     match part(word, ':', 0) {
         "open" => open(side),
-        "put" => put(side, at, part(word, ':', 2).as_bytes()),
-        "byte" => put(side, at, &[byte(word, 2)]),
+        "put" => fill(side, at, part(word, ':', 2).as_bytes()),
+        "byte" => fill(side, at, &[byte(word, 2)]),
         "flip" => flip(side),
         "cut" => side.truncate(at),
         _ => {}

@@ -21,6 +21,13 @@ pub(crate) fn byte(word: &str, at: usize) -> u8 {
     part(word, ':', at).parse::<u8>().unwrap_or(0)
 }
 
+/// Puts bytes at an offset. What lies past the end is left out.
+pub(crate) fn fill(area: &mut [u8], at: usize, bytes: &[u8]) {
+    for (place, byte) in area.iter_mut().skip(at).zip(bytes) {
+        *place = *byte;
+    }
+}
+
 // A word of the command line.
 fn spelled(alloc: Global, word: &str) -> Result<String, AllocError> {
     let mut text = String::new(alloc);

@@ -75,16 +75,14 @@ fn parent_identifier(size: u32) -> [u8; PARENT] {
     descriptor
 }
 
-/// What an entry is of: ICB file types (ECMA-167 4/14.6.6).
-#[derive(Clone, Copy)]
-pub(crate) enum Kind {
-    Directory = 4,
-    File = 5,
-}
+/// ICB file types (ECMA-167 4/14.6.6).
+const DIRECTORY: u8 = 4;
 
-// The fields of an extended file entry but its tag, its lengths and its body.
-fn put_head(block: &mut [u8; 512], kind: Kind, id: u64, length: u64) {
-    put(block, 20, &[4, 0, 0, 0, 1, 0, 0, kind as u8]);
+const FILE: u8 = 5;
+
+// The fields of an extended file entry but its tag, the length of its body, and its body.
+fn put_head(block: &mut [u8; 512], file_type: u8, id: u64, length: u64) {
+    put(block, 20, &[4, 0, 0, 0, 1, 0, 0, file_type]);
     put(block, 36, &[0xFF; 8]);
     put(block, 44, &[0xFF, 0x7F, 0, 0, 1]);
     put(block, 56, &length.to_le_bytes());
@@ -121,14 +119,14 @@ fn put_list(block: &mut [u8; 512], list: &[Short])
     put(block, 72, &blocks.to_le_bytes());
 }
 
-/// An extended file entry: short descriptors where the list has any, else the body embedded.
-pub(crate) fn entry(kind: Kind, id: u64, bytes: u64, list: &[Short], body: &[u8]) -> [u8; 512]
+// An extended file entry: short descriptors where the list has any, else the body embedded.
+fn entry(file_type: u8, id: u64, bytes: u64, list: &[Short], body: &[u8]) -> [u8; 512]
     requires list { 216 + 8 * length_of list.now ≤ 512 }
     requires lawful { All (λ extent. (extent.kind ≤ 3) × (extent.length < 2 ^ 30)) list.now }
     requires body { 216 + length_of body.now ≤ 512 }
 {
     let mut block = [0; 512];
-    put_head(&mut block, kind, id, bytes);
+    put_head(&mut block, file_type, id, bytes);
     let used = if list.is_empty() {
         block[34] = 3;
         put(&mut block, BODY, body);
@@ -147,10 +145,15 @@ pub(crate) fn entry(kind: Kind, id: u64, bytes: u64, list: &[Short], body: &[u8]
     block
 }
 
+/// An extended file entry of this ICB file type, unique id and information length, with one link and an embedded body of no bytes.
+pub fn file_entry(file_type: u8, id: u64, length: u64) -> [u8; 512] {
+    entry(file_type, id, length, &[], b"")
+}
+
 /// The entry of an empty root.
 pub(crate) fn root(form: &Form) -> [u8; 512] {
     let parent = parent_identifier(form.size);
-    let mut block = entry(Kind::Directory, 0, PARENT as u64, &[], &parent);
+    let mut block = entry(DIRECTORY, 0, PARENT as u64, &[], &parent);
     relocate(&mut block, ROOT_AT);
     block
 }
@@ -174,12 +177,8 @@ pub fn put_entry(
     requires body { 216 + length_of body.now ≤ 512 }
     ensures { (block : List ℕ) × (length_of block ≡ 512) × (image.new ≡ written_at ((257 + at) * 512) block image.old) }
 {
-    let kind = if directory {
-        Kind::Directory
-    } else {
-        Kind::File
-    };
-    let mut block = entry(kind, id, length, list, body);
+    let file_type = if directory { DIRECTORY } else { FILE };
+    let mut block = entry(file_type, id, length, list, body);
     relocate(&mut block, at);
     put(image, (257 + at as usize) * 512, &block);
 }

@@ -12,7 +12,7 @@ mod form;
 mod volume;
 
 pub use damage::{Damage, hurt};
-pub use files::put_entry;
+pub use files::{file_entry, put_entry};
 pub use form::{Form, Layer};
 pub use udf_outside::NoMemory;
 pub use volume::{bare_volume, volume_a, volume_of, volume_s};
