@@ -3,13 +3,22 @@ PREFIX ?= /usr/local
 PROGRAM = crates/udffsck/out/udffsck
 SAMPLE = crates/udffsck/data/a.img
 COPY = out/a.img
+LOG = out/build.log
+TRIED = out/tried
 
-.PHONY: all check-sample repair-sample test check-cases check-files install clean
+.PHONY: all check-sample repair-sample try-sample test check-cases check-files check-volumes install clean
 
 all: $(PROGRAM)
 
+# One line for each crate as it is proved; all that rt prints stands in the log. Where rt fails, so does the rule, with rt's status.
 $(PROGRAM): crates.txt $(wildcard crates/*/src/*.rt)
-	cd crates/udffsck && rt run -- -c -B 512 data/a.img
+	@echo 'Every crate is proved before the program is built: an hour or more on four cores where nothing is kept. Log: $(LOG)'
+	@mkdir -p $(dir $(LOG))
+	@rm -f $(LOG).status
+	@{ (cd crates/udffsck && rt run -- -c -B 512 data/a.img); echo $$? >$(LOG).status; } 2>&1 \
+	    | tee $(LOG) | awk '/^crate / { sub(":", "", $$2); name = $$2 } /^logic=proved / { print name " proved"; fflush() }'
+	@status=$$(cat $(LOG).status); rm -f $(LOG).status; \
+	    [ "$$status" = 0 ] || { tail -n 20 $(LOG); echo 'make: rt ended with status' $$status; exit $$status; }
 
 # Builds the program and checks the sample volume of the repository.
 check-sample: $(PROGRAM)
@@ -27,6 +36,17 @@ repair-sample: $(PROGRAM)
 	$(PROGRAM) -c -B 512 $(COPY)
 	cmp $(COPY) $(SAMPLE)
 
+# Checks the sample volume and a damaged copy of it with an unproved build: rt compiles the program with checks at run time, runs it on
+# each file, and throws away what it writes. So nothing is repaired here, and nothing is kept for repair-sample.
+try-sample:
+	@echo 'An unproved build: NOTHING IS PROVED. It takes one to three minutes to compile, and is not kept.'
+	@rm -rf $(TRIED) && mkdir -p $(TRIED)
+	@cp $(SAMPLE) $(TRIED)/sample && cp $(SAMPLE) $(TRIED)/damaged && chmod u+w $(TRIED)/damaged
+	@dd if=/dev/zero of=$(TRIED)/damaged bs=512 seek=96 count=16 conv=notrunc status=none
+	@cd crates/udffsck && rt try --seconds 600 --steps 100000000000 --cases ../../$(TRIED) -- -c -B 512 case </dev/null \
+	    >../../$(TRIED).log 2>&1; grep -v '^checked' ../../$(TRIED).log
+	@echo 'No repair was tried, since rt try keeps no file that a program writes: make repair-sample proves the program and repairs.'
+
 # The gate: proves every crate, tries the must-fail edits, runs the tests and the programs.
 test:
 	rt ci
@@ -38,6 +58,10 @@ check-cases:
 # Runs the built program on damaged copies of the sample volume and compares what it prints and leaves.
 check-files: $(PROGRAM)
 	sh tests/files.sh $(PROGRAM) $(SAMPLE)
+
+# Checks volumes of mkudffs and of genisoimage, where these are installed, and compares what is printed with docs/VOLUMES.md.
+check-volumes: $(PROGRAM)
+	sh tests/mkudffs.sh $(PROGRAM)
 
 install: $(PROGRAM)
 	install -d $(DESTDIR)$(PREFIX)/sbin $(DESTDIR)$(PREFIX)/share/man/man8
