@@ -39,7 +39,7 @@ repair-sample: $(PROGRAM)
 # Checks the sample volume and a damaged copy of it with an unproved build: rt compiles the program with checks at run time, runs it on
 # each file, and throws away what it writes. So nothing is repaired here, and nothing is kept for repair-sample.
 try-sample:
-	@echo 'An unproved build: NOTHING IS PROVED. It takes one to three minutes to compile, and is not kept.'
+	@echo 'An unproved build: NOTHING IS PROVED. It takes a minute or two to compile, and is not kept.'
 	@rm -rf $(TRIED) && mkdir -p $(TRIED)
 	@cp $(SAMPLE) $(TRIED)/sample && cp $(SAMPLE) $(TRIED)/damaged && chmod u+w $(TRIED)/damaged
 	@dd if=/dev/zero of=$(TRIED)/damaged bs=512 seek=96 count=16 conv=notrunc status=none
