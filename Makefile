@@ -45,6 +45,7 @@ try-sample:
 	@dd if=/dev/zero of=$(TRIED)/damaged bs=512 seek=96 count=16 conv=notrunc status=none
 	@cd crates/udffsck && rt try --seconds 600 --steps 100000000000 --cases ../../$(TRIED) -- -c -B 512 case </dev/null \
 	    >../../$(TRIED).log 2>&1; grep -v '^checked' ../../$(TRIED).log
+	@grep -qx 'udffsck: case: clean' $(TRIED).log && grep -qx 'udffsck: case: 1 broken' $(TRIED).log
 	@echo 'No repair was tried, since rt try keeps no file that a program writes: make repair-sample proves the program and repairs.'
 
 # The gate: proves every crate, tries the must-fail edits, runs the tests and the programs.
