@@ -44,8 +44,8 @@ fn header_of(id: u16) -> Option<usize>
     }
 }
 
-// The kind of an entry's allocation descriptors.
-pub(crate) fn kind_in(block: &[u8]) -> u8
+/// The kind of an entry's allocation descriptors (ECMA-167 4/14.6.8): 0 short, 1 long, 2 extended, 3 embedded.
+pub fn kind_in(block: &[u8]) -> u8
     requires { 36 ≤ length block.now }
     ensures { result ≡ kind_at block.now }
 {
@@ -72,7 +72,7 @@ fn fits_block(block: &[u8], header: usize) -> bool
 
 /// The length of the header of the readable entry in a block at a location.
 #[tactic(auto, unfolding(udf_file_model::specs::Entry::entry_header))]
-pub(crate) fn header_at(block: &[u8], location: u32) -> Option<usize>
+pub fn header_at(block: &[u8], location: u32) -> Option<usize>
     ensures value { result ≡ entry_header location block.now }
     ensures opened { IfSome result (λ header. IsOpened header block.now) }
     ensures bytes { IsBytes block.now }
@@ -106,7 +106,7 @@ pub(crate) fn extent_in(block: &[u8], location: u32) -> Option<&[u8]>
 }
 
 /// Where the body of the entry with this header begins.
-pub(crate) fn base_in(block: &[u8], header: usize) -> usize
+pub fn base_in(block: &[u8], header: usize) -> usize
     requires { IsOpened header block.now }
     ensures base { result ≡ base_of header block.now }
     ensures room { result + descriptor_bytes header block.now ≤ length block.now }

@@ -22,7 +22,7 @@ const TAG_BYTES: usize = 16;
 
 /// The values that a mend may change.
 #[derive(Clone, Copy, Debug, PartialEq, Eq)]
-pub(crate) struct Values {
+pub struct Values {
     /// The information length in bytes.
     pub information: u64,
     /// The object size in bytes, of an extended entry.
@@ -104,7 +104,7 @@ impl Values {
 }
 
 /// Makes the tag of an entry with this header anew, over header, attributes and so many bytes of its body.
-pub(crate) fn retag_entry(block: &mut [u8], location: u32, base: usize, bytes: usize)
+pub fn retag_entry(block: &mut [u8], location: u32, base: usize, bytes: usize)
     requires room { base + bytes ≤ length block.old }
     requires least { 176 ≤ base }
     requires small { length block.old ≤ 4096 }
