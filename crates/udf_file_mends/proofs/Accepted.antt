@@ -43,7 +43,7 @@ use Rattle.udf_file_mends.proofs.Joined.{claims_free, has_each, has_entry, other
 use Rattle.udf_file_mends.proofs.Blockwise.{mended_bytes, mended_long}
 use Rattle.udf_file_mends.proofs.Nodes.{entry_reads}
 
-not_any : {X : Type 0} (p : X → Bool) (xs : List X) → list_any p xs ≡ false → (x : X) → Member x xs → p x ≡ false
+pub not_any : {X : Type 0} (p : X → Bool) (xs : List X) → list_any p xs ≡ false → (x : X) → Member x xs → p x ≡ false
 not_any p xs h x m = by (p x) refl
   where
     by : (b : Bool) → p x ≡ b → p x ≡ false
@@ -59,7 +59,7 @@ entry_stays v disk a h = ap (λ (o : Option Entry). cond (is_address a) o None) 
     by (Some n) e = ap (entry_of a.block) e
 
 -- where an entry stands there is no indirect one
-not_indirect : (v : Volume) (a : Addr) (e : Entry) → entry_at v a ≡ Some e → is_indirect v a ≡ false
+pub not_indirect : (v : Volume) (a : Addr) (e : Entry) → entry_at v a ≡ Some e → is_indirect v a ≡ false
 unfolding is_indirect entry_header
 not_indirect v a e h =
     let r = is_read v a e h in
@@ -87,14 +87,14 @@ pub record Passed (x y z w : Bool) : Type 0 where
   pub third : z ≡ false
   pub last : w ≡ true
 
-passed : (x y z w : Bool) → cond x (Some Strategy) (cond y (Some ExtendedDescriptors) (cond z (Some AttributeFile) (cond w None (Some RootDirectory)))) ≡ None → Passed x y z w
+pub passed : (x y z w : Bool) → cond x (Some Strategy) (cond y (Some ExtendedDescriptors) (cond z (Some AttributeFile) (cond w None (Some RootDirectory)))) ≡ None → Passed x y z w
 passed true y z w e = cc
 passed false true z w e = cc
 passed false false true w e = cc
 passed false false false true e = record { first = refl; second = refl; third = refl; last = refl }
 passed false false false false e = cc
 
-or_none : (x y : Bool) → (x || y) ≡ false → (x ≡ false) × (y ≡ false)
+pub or_none : (x y : Bool) → (x || y) ≡ false → (x ≡ false) × (y ≡ false)
 or_none true y e = cc
 or_none false y e = (refl, e)
 

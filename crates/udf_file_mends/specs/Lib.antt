@@ -3,3 +3,4 @@ pub mod Wanted
 pub mod Spread
 pub mod Mends
 pub mod Repairable
+pub mod FileSet

@@ -15,12 +15,13 @@ use Rattle.udf_rules_model.specs.FileRules.{count_rule, identifier_rule, links_b
 use Rattle.udf_count_laws.specs.Alike.{AreAlike, StatesWanted}
 use Rattle.udf_count_laws.proofs.Counting.{counts_hold}
 use Rattle.udf_count_laws.proofs.Identifying.{identifiers_hold}
+use Rattle.udf_file_mends.specs.FileSet.{frame_after}
 use Rattle.udf_file_mends.specs.Repairable.{IsMendOn}
 use Rattle.udf_file_mends.specs.Wanted.{wanted}
 use Rattle.udf_file_mends.proofs.Nodes.{entry_reads}
 use Rattle.udf_mended_rules.specs.AllMends.{HasAllMends}
 use Rattle.udf_mended_rules.proofs.Contents.{mended_same}
-use Rattle.udf_mended_rules.proofs.Keepers.{ordinary_kept, ordinary_same, start_is_root, says_same, streams_same}
+use Rattle.udf_mended_rules.proofs.Keepers.{ordinary_kept, ordinary_same, start_is_root, fitted_says, streams_same}
 use Rattle.udf_mended_rules.proofs.Linked.{linked}
 use Rattle.udf_mended_rules.proofs.Settled as settled
 
@@ -28,13 +29,15 @@ module _ (f : Frame) (v : Volume) (disk : ℕ → List ℕ) (h : HasAllMends f v
   abbrev w : Volume
   w = with_disk v disk
 
-  fitted_same : (a : Addr) → is_kept_directory f v a ≡ true → said (fitted (setting_of f w) (tree_of f w) a) ≡ said (fitted (setting_of f v) (tree_of f v) a)
-  unfolding setting_of places
-  fitted_same a k = let r = settled.directory_at f v disk h a k in says_same f v disk h a (settled.is_kept f v disk h a r.1.0.kept)
+  abbrev g : Frame
+  g = frame_after f v
 
-  pub alike : AreAlike f f v (with_disk v disk)
+  fitted_same : (a : Addr) → is_kept_directory f v a ≡ true → said (fitted (setting_of g w) (tree_of g w) a) ≡ said (fitted (setting_of f v) (tree_of f v) a)
+  fitted_same a k = let r = settled.directory_at f v disk h a k in fitted_says f v disk h a (settled.is_kept f v disk h a r.1.0.kept)
+
+  pub alike : AreAlike f (frame_after f v) v (with_disk v disk)
   alike = record {
-    root = refl;
+    root = unfold frame_after in refl;
     size = refl;
     places = unfold places in refl;
     entries = settled.entries_same f v disk h;
@@ -62,8 +65,8 @@ module _ (f : Frame) (v : Volume) (disk : ℕ → List ℕ) (h : HasAllMends f v
   pub states : StatesWanted f v (with_disk v disk)
   states = record { links = links_stated; ids = ids_stated; linked = linked f v disk h }
 
-  pub counts : count_rule f (with_disk v disk) ≡ true
-  counts = counts_hold f f v w alike h.repairable.accepted h.repairable.file_set states
+  pub counts : count_rule (frame_after f v) (with_disk v disk) ≡ true
+  counts = counts_hold f g v w alike h.repairable.accepted h.repairable.file_set states
 
-  pub identifiers : identifier_rule f (with_disk v disk) ≡ true
-  identifiers = identifiers_hold f f v w alike states
+  pub identifiers : identifier_rule (frame_after f v) (with_disk v disk) ≡ true
+  identifiers = identifiers_hold f g v w alike states

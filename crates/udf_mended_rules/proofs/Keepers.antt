@@ -1,17 +1,17 @@
 -- After all mends the kept directories hang on the same holders, by links that say the same.
-use Rattle.std.proofs.Common.{◌≡◌, ◌⊎◌, ℕ, zero, suc, ◌&&◌, not, nat_le, Bool, true, false, cond, length, Some, None, List, arith, refl, sym, ap, ◌∙◌, inl, inr}
-use Rattle.std.specs.Prelude.{◌==◌, is_some}
+use Rattle.std.proofs.Common.{◌≡◌, ◌⊎◌, ℕ, zero, suc, ◌&&◌, not, nat_le, Bool, true, false, cond, length, Some, None, List, arith, Option, refl, sym, ap, ◌∙◌, subst, inl, inr}
+use Rattle.std.specs.Prelude.{◌==◌}
 use Rattle.std.specs.List.{list_any}
-use Rattle.std.proofs.lemmas.Bool.{and_from, and_parts, false≢true, or_left, or_right}
+use Rattle.std.proofs.lemmas.Bool.{and_parts, false≢true, or_left}
 use Rattle.std.proofs.lemmas.Bool.Decides.{nat_tests}
 use Rattle.udf_field.specs.declared.address.Addr.{Addr}
 use Rattle.udf_file_model.specs.Address.{same_addr}
-use Rattle.udf_file_model.specs.Listing.{Volume, is_placed, with_disk}
+use Rattle.udf_file_model.specs.Listing.{Volume, with_disk}
 use Rattle.udf_tree_model.specs.Among.{Member}
 use Rattle.udf_tree_model.specs.Chosen.{Rank, chosen, chosen_link, fitted, rank_of}
 use Rattle.udf_tree_model.specs.Counts.{is_stream}
 use Rattle.udf_tree_model.specs.Found.{leads_to}
-use Rattle.udf_tree_model.specs.Frame.{Frame, is_address, is_file_set, is_holder, is_start, places, setting_of, tree_of}
+use Rattle.udf_tree_model.specs.Frame.{Frame, is_holder, is_start, places, setting_of, tree_of}
 use Rattle.udf_tree_model.specs.Kept.{kept}
 use Rattle.udf_tree_model.specs.Laws.{KeepsBy}
 use Rattle.udf_tree_model.specs.Link.{Link, Says, is_pointer, target_of}
@@ -26,8 +26,11 @@ use Rattle.udf_tree_model.proofs.Members.{any_from, any_gives, contains_of, memb
 use Rattle.udf_tree_model.proofs.Parents.{keeping_directory}
 use Rattle.udf_tree_model.proofs.Places.{same_address}
 use Rattle.udf_tree_model.proofs.Reached.{round_gives, same_rounds, zero_round}
+use Rattle.udf_file_mends.specs.FileSet.{frame_after}
 use Rattle.udf_tree.proofs.Ordinaries.{fitted_place}
 use Rattle.udf_mended_rules.specs.AllMends.{HasAllMends}
+use Rattle.udf_mended_rules.proofs.Dropped.{IsSameBut}
+use Rattle.udf_mended_rules.proofs.Holder.{holder_start, is_gone, mended_tree, told_same}
 use Rattle.udf_mended_rules.proofs.Settled as settled
 
 -- a test of what links say has the same answer on lists that say the same
@@ -56,7 +59,13 @@ module _ (f : Frame) (v : Volume) (disk : ℕ → List ℕ) (h : HasAllMends f v
   t = tree_of f v
 
   abbrev u : Tree
-  u = tree_of f (with_disk v disk)
+  u = mended_tree f v disk
+
+  abbrev g : Frame
+  g = frame_after f v
+
+  told : IsSameBut (setting_of f v) (setting_of (frame_after f v) (with_disk v disk)) (mended_tree f v disk) (tree_of (frame_after f v) (with_disk v disk)) (is_gone f v)
+  told = told_same f v disk h
 
   all : IsMended s t u
   all = settled.all f v disk h
@@ -64,9 +73,12 @@ module _ (f : Frame) (v : Volume) (disk : ℕ → List ℕ) (h : HasAllMends f v
   again : IsMended s u u
   again = settled.again f v disk h
 
-  pub says_same : (a : Addr) → kept (setting_of f v) (tree_of f v) a ≡ true
-      → said (fitted (setting_of f v) (tree_of f (with_disk v disk)) a) ≡ said (fitted (setting_of f v) (tree_of f v) a)
+  says_same : (a : Addr) → kept s t a ≡ true → said (fitted s u a) ≡ said (fitted s t a)
   says_same a k = ((settled.is_settled f v disk h).at_each a k).links_same
+
+  pub fitted_says : (a : Addr) → kept (setting_of f v) (tree_of f v) a ≡ true
+      → said (fitted (setting_of (frame_after f v) (with_disk v disk)) (tree_of (frame_after f v) (with_disk v disk)) a) ≡ said (fitted (setting_of f v) (tree_of f v) a)
+  fitted_says a k = ap said (told.fits a) ∙ says_same a k
 
   -- a link that keeps an entry in the mended tree, for the one that keeps it in the old one
   record Twin (a d : Addr) (l : Link) : Type 0 where
@@ -88,8 +100,7 @@ module _ (f : Frame) (v : Volume) (disk : ℕ → List ℕ) (h : HasAllMends f v
       }
 
   new_place : (d : Addr) (l : Link) → Member l (fitted s u d) → (l.place == 0) ≡ is_pointer l.says
-  unfolding setting_of places
-  new_place d l m = place_is f w d l m
+  new_place d l m = place_is g w d l (subst (λ (ls : List Link). Member l ls) (sym (told.fits d)) m)
 
   -- ---- stream directories
   rank_place : (s : Setting) (t : Tree) (d : Addr) (l : Link) → (rank_of s t d l).place ≡ l.place
@@ -126,10 +137,11 @@ module _ (f : Frame) (v : Volume) (disk : ℕ → List ℕ) (h : HasAllMends f v
           by true = refl
           by false = ap (λ n. n == 0) (rank_place s u r.0 x.link) ∙ places_same ∙ sym (ap (λ n. n == 0) (rank_place s t r.0 r.1))
 
-  pub streams_same : (a : Addr) → is_stream f (with_disk v disk) a ≡ is_stream f v a
-  unfolding is_stream_directory setting_of places
+  pub streams_same : (a : Addr) → is_stream (frame_after f v) (with_disk v disk) a ≡ is_stream f v a
+  unfolding is_stream_directory
   streams_same a =
-      ap (λ b. b && ((node_at u a).directory && is_pointer_rank (chosen_link s u a))) ((settled.is_settled f v disk h).kept_is_kept a)
+      told.streams a
+      ∙ ap (λ b. b && ((node_at u a).directory && is_pointer_rank (chosen_link s u a))) ((settled.is_settled f v disk h).kept_is_kept a)
       ∙ by (kept s t a) refl
     where
       at : (b : Bool) → kept s t a ≡ true → (node_at t a).directory ≡ b → (b && is_pointer_rank (chosen_link s u a)) ≡ (b && is_pointer_rank (chosen_link s t a))
@@ -149,44 +161,50 @@ module _ (f : Frame) (v : Volume) (disk : ℕ → List ℕ) (h : HasAllMends f v
   abbrev kept_on : Addr → Addr
   kept_on d = cond (same_addr d f.file_set) f.root d
 
-  parent_is : (a : Addr) → same_addr a f.root ≡ false → (v' : Volume) (d : Addr) (x : Rank) → keeping (setting_of f v') (tree_of f v') a ≡ Some x → x.holder ≡ d
-      → parent f v' a ≡ kept_on d
-  unfolding parent
-  parent_is a n v' d x k e =
-      ap (λ b. cond b f.root (parent_by f (keeping (setting_of f v') (tree_of f v') a))) n ∙ ap (parent_by f) k
+  parent_is : (a : Addr) → same_addr a f.root ≡ false → (o : Option Rank) (d : Addr) (x : Rank) → o ≡ Some x → x.holder ≡ d
+      → cond (same_addr a f.root) f.root (parent_by f o) ≡ kept_on d
+  parent_is a n o d x k e =
+      ap (λ b. cond b f.root (parent_by f o)) n ∙ ap (parent_by f) k
       ∙ ap (λ z. cond (same_addr z f.file_set) f.root z) e
+
+  parent_new : (a : Addr) → parent (frame_after f v) (with_disk v disk) a ≡ cond (same_addr a f.root) f.root (parent_by f (keeping s u a))
+  unfolding parent frame_after
+  parent_new a = ap (λ o. cond (same_addr a f.root) f.root (parent_by f o)) (told.keepers a)
+
+  parent_old : (a : Addr) → parent f v a ≡ cond (same_addr a f.root) f.root (parent_by f (keeping s t a))
+  unfolding parent
+  parent_old a = refl
 
   -- the parent of a kept directory that is no start but the root
   pub parents_same : (a : Addr) → kept (setting_of f v) (tree_of f v) a ≡ true → (node_at (tree_of f v) a).directory ≡ true
-      → (setting_of f v).start a ≡ same_addr a f.root → parent f (with_disk v disk) a ≡ parent f v a
-  parents_same a k directory start = by (same_addr a f.root) refl
+      → (setting_of f v).start a ≡ same_addr a f.root → parent (frame_after f v) (with_disk v disk) a ≡ parent f v a
+  parents_same a k directory start = parent_new a ∙ by (same_addr a f.root) refl ∙ sym (parent_old a)
     where
-      root : (v' : Volume) → same_addr a f.root ≡ true → parent f v' a ≡ f.root
-      root v' e = unfold parent in ap (λ b. cond b f.root (parent_by f (keeping (setting_of f v') (tree_of f v') a))) e
+      root : same_addr a f.root ≡ true → (o : Option Rank) → cond (same_addr a f.root) f.root (parent_by f o) ≡ f.root
+      root e o = ap (λ b. cond b f.root (parent_by f o)) e
 
-      kept_by_link : same_addr a f.root ≡ false → (s.start a ≡ true) ⊎ ((d : Addr) × (l : Link) × KeepsBy s t a d l) → parent f w a ≡ parent f v a
+      kept_by_link : same_addr a f.root ≡ false → (s.start a ≡ true) ⊎ ((d : Addr) × (l : Link) × KeepsBy s t a d l)
+          → cond (same_addr a f.root) f.root (parent_by f (keeping s u a)) ≡ cond (same_addr a f.root) f.root (parent_by f (keeping s t a))
       kept_by_link n (inl e) = absurd (false≢true (sym (start ∙ n) ∙ e))
       kept_by_link n (inr r) =
           let x = twin a r.0 r.1 r.2 in
           let old = keeping_directory s t all.old_within all.old_starts all.old_places a r.0 r.1 r.2 directory in
           let new = keeping_directory s u again.old_within again.old_starts again.old_places a r.0 x.link x.keeps (kind_same a k ∙ directory) in
-          parent_is a n w r.0 (keeping_rank s u r.0 x.link) (at_new new) (holder_of s u r.0 x.link)
-          ∙ sym (parent_is a n v r.0 (keeping_rank s t r.0 r.1) old (holder_of s t r.0 r.1))
-        where
-          at_new : {x : Rank} → keeping s u a ≡ Some x → keeping (setting_of f w) u a ≡ Some x
-          at_new e = unfold setting_of places in e
+          parent_is a n (keeping s u a) r.0 (keeping_rank s u r.0 x.link) new (holder_of s u r.0 x.link)
+          ∙ sym (parent_is a n (keeping s t a) r.0 (keeping_rank s t r.0 r.1) old (holder_of s t r.0 r.1))
 
-      by : (b : Bool) → same_addr a f.root ≡ b → parent f w a ≡ parent f v a
-      by true e = root w e ∙ sym (root v e)
+      by : (b : Bool) → same_addr a f.root ≡ b
+          → cond (same_addr a f.root) f.root (parent_by f (keeping s u a)) ≡ cond (same_addr a f.root) f.root (parent_by f (keeping s t a))
+      by true e = root e (keeping s u a) ∙ sym (root e (keeping s t a))
       by false e = kept_by_link e (kept_by s t all.old_within all.old_starts a k)
 
   -- ---- ordinary entries
-  edges_same : (d a : Addr) → kept s t d ≡ true → (ordinary_graph f v).edge d a ≡ (ordinary_graph f w).edge d a
-  unfolding ordinary_graph setting_of places
+  edges_same : (d a : Addr) → kept s t d ≡ true → (ordinary_graph f v).edge d a ≡ (ordinary_graph g w).edge d a
+  unfolding ordinary_graph
   edges_same d a k =
-      let l = says_same d k in
-      same_bools _ _ (says_any (λ x. not (is_pointer x) && same_addr (target_of x) a) (fitted s t d) (fitted s u d) (sym l))
-      (says_any (λ x. not (is_pointer x) && same_addr (target_of x) a) (fitted s u d) (fitted s t d) l)
+      let l = fitted_says d k in
+      same_bools _ _ (says_any (λ x. not (is_pointer x) && same_addr (target_of x) a) (fitted s t d) (fitted (setting_of g w) (tree_of g w) d) (sym l))
+      (says_any (λ x. not (is_pointer x) && same_addr (target_of x) a) (fitted (setting_of g w) (tree_of g w) d) (fitted s t d) l)
 
   root_start : (a : Addr) → same_addr a f.root ≡ true → s.start a ≡ true
   unfolding setting_of is_start
@@ -218,16 +236,16 @@ module _ (f : Frame) (v : Volume) (disk : ℕ → List ℕ) (h : HasAllMends f v
             λ e. absurd (false≢true (sym (keeps_no_start s t all.old_starts a r.0 l.0 l.1) ∙ e)),
           )
 
-  ordinary_rounds : (k : ℕ) (a : Addr) → in_round (ordinary_graph f v) k a ≡ in_round (ordinary_graph f w) k a
-  ordinary_rounds = same_rounds (ordinary_graph f v) (ordinary_graph f w) places_same (λ a. start_same a) (λ k d a i. edges_same d a (round_kept k d i).0)
+  ordinary_rounds : (k : ℕ) (a : Addr) → in_round (ordinary_graph f v) k a ≡ in_round (ordinary_graph g w) k a
+  ordinary_rounds = same_rounds (ordinary_graph f v) (ordinary_graph g w) places_same (λ a. start_same a) (λ k d a i. edges_same d a (round_kept k d i).0)
     where
-      places_same : (ordinary_graph f v).places ≡ (ordinary_graph f w).places
+      places_same : (ordinary_graph f v).places ≡ (ordinary_graph g w).places
       places_same = unfold ordinary_graph setting_of places in refl
 
-      start_same : (a : Addr) → (ordinary_graph f v).start a ≡ (ordinary_graph f w).start a
-      start_same a = unfold ordinary_graph in refl
+      start_same : (a : Addr) → (ordinary_graph f v).start a ≡ (ordinary_graph g w).start a
+      start_same a = unfold ordinary_graph frame_after in refl
 
-  pub ordinary_same : (a : Addr) → ordinary f (with_disk v disk) a ≡ ordinary f v a
+  pub ordinary_same : (a : Addr) → ordinary (frame_after f v) (with_disk v disk) a ≡ ordinary f v a
   unfolding ordinary reached ordinary_graph setting_of places
   ordinary_same a = sym (ordinary_rounds (length (places v)) a)
 
@@ -237,12 +255,5 @@ module _ (f : Frame) (v : Volume) (disk : ℕ → List ℕ) (h : HasAllMends f v
 
   -- where the file set is ordinary it is the root
   pub start_is_root : (a : Addr) → ordinary f v a ≡ true → is_holder f v a ≡ true → same_addr a f.root ≡ true
-  unfolding ordinary reached
-  start_is_root a o n = (round_kept (length (ordinary_graph f v).places) a o).1 (holder_start n)
-    where
-      holder_start : is_holder f v a ≡ true → s.start a ≡ true
-      holder_start n =
-          unfold is_holder setting_of is_start in
-          let p = and_parts (is_some f.system) (is_file_set f v a) n in
-          let q = and_parts (same_addr a f.file_set) (is_address a && is_placed v a) p.1 in
-          or_right (same_addr a f.root) (is_some f.system && same_addr a f.file_set) (and_from (is_some f.system) (same_addr a f.file_set) p.0 q.0)
+  unfolding ordinary reached setting_of
+  start_is_root a o n = (round_kept (length (ordinary_graph f v).places) a o).1 (holder_start f v disk h a n)

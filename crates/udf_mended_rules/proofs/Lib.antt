@@ -1,3 +1,5 @@
+pub mod Dropped
+pub mod Holder
 pub mod Settled
 pub mod Keepers
 pub mod Contents
@@ -7,3 +9,4 @@ pub mod Linked
 pub mod Alike
 pub mod FileSet
 pub mod Space
+pub mod Accepted

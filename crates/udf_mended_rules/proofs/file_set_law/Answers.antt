@@ -1,5 +1,5 @@
-use Rattle.udf_mended_rules.proofs.FileSet.{holder_no_entry}
+use Rattle.udf_mended_rules.proofs.FileSet.{set_stands}
 use Rattle.udf_mended_rules.proofs.file_set_law.Goals as goal
 
 pub returns : goal.returns
-returns c = record { no_entry = holder_no_entry }
+returns c = record { stands = set_stands }

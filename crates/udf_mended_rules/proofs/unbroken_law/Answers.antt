@@ -1,3 +1,4 @@
+use Rattle.udf_mended_rules.proofs.Accepted.{nothing_lost}
 use Rattle.udf_mended_rules.proofs.Alike as alike
 use Rattle.udf_mended_rules.proofs.Rules as rules
 use Rattle.udf_mended_rules.proofs.unbroken_law.Goals as goal
@@ -19,3 +20,6 @@ returns-clause-counts c = alike.counts
 
 pub returns-clause-identifiers : goal.returns-clause-identifiers
 returns-clause-identifiers c = alike.identifiers
+
+pub returns-clause-selected : goal.returns-clause-selected
+returns-clause-selected c = nothing_lost
