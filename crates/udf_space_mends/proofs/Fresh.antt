@@ -1,10 +1,11 @@
 -- A new integrity descriptor, before its tag is made.
-use Rattle.std.proofs.Common.{◌≡◌, ℕ, zero, suc, ◌<◌, ◌≤◌, ◌^◌, arith, refl, ◌∙◌, List, [], ◌∷◌, length, replicate, codes, Bool, true, false, cond, ltb}
+use Rattle.std.proofs.Common.{◌≡◌, ℕ, zero, suc, ◌<◌, ◌≤◌, ◌^◌, arith, refl, ◌∙◌, List, [], ◌∷◌, length, get_or, drop, inl, inr, ap, replicate, codes, Bool, true, false, cond, ltb}
 use Rattle.std.specs.List.{list_all}
 use Rattle.std.proofs.lemmas.Bool.{and_parts, ltb-true}
 use Rattle.std.proofs.lemmas.List.{length-replicate}
 use Rattle.udf_model.specs.Bytes.{IsBytes, number_at, written_at}
-use Rattle.udf_model.proofs.Written.{written_is_bytes, written_length}
+use Rattle.udf_model.proofs.Written.{number_apart, same_number, written_is_bytes, written_length}
+use Rattle.byteorder.specs.Endian.{little_number}
 use Rattle.udf_file_model.specs.Wanted.{with_fields}
 use Rattle.udf_file_model.proofs.Fields.{AllFit, fields_are_bytes, fields_length, fields_read}
 use Rattle.udf_space_mends.specs.IntegrityMend.{fresh_block, fresh_fields}
@@ -19,6 +20,21 @@ zero_bytes : (n : ℕ) → IsBytes (replicate n 0)
 zero_bytes zero i = omega arith
 zero_bytes (suc n) zero = omega arith
 zero_bytes (suc n) (suc i) = zero_bytes n i
+
+zero_byte : (n i : ℕ) → get_or {A = ℕ} (replicate n 0) i 0 ≡ 0
+zero_byte zero i = refl
+zero_byte (suc n) zero = refl
+zero_byte (suc n) (suc i) = zero_byte n i
+
+drop_none : (n : ℕ) → drop {A = ℕ} n [] ≡ []
+drop_none zero = refl
+drop_none (suc n) = refl
+
+zero_number : (n at : ℕ) → number_at 4 (replicate n 0) at ≡ 0
+zero_number n at = same_number 4 at (replicate n 0) [] (λ k l h. zero_byte n k) ∙ none
+  where
+    none : number_at 4 [] at ≡ 0
+    none = unfold number_at in ap (little_number 4) (drop_none at)
 
 abbrev name : List ℕ
 name = codes "*UDFTOOLS-R"
@@ -85,6 +101,16 @@ module _ (size : ℕ) (stamp : List ℕ) (revision : ℕ) (big : 512 ≤ size) (
 
   pub base_one : number_at 4 base 72 ≡ 1
   base_one = fields_read (fresh_fields revision) (fresh_block size stamp) 4 72 1 fresh_fit refl
+
+  -- zeros stand before the recording time's end and the implementation's name
+  block_next : number_at 4 (fresh_block size stamp) 32 ≡ 0
+  block_next =
+      number_apart 16 12 4 32 stamp (written_at 89 name (replicate size 0)) twelve (omega (arith, named_long, big)) (inr (omega arith))
+      ∙ number_apart 89 11 4 32 name (replicate size 0) refl (omega (arith, length-replicate {A = ℕ} size 0, big)) (inl (omega arith))
+      ∙ zero_number size 32
+
+  pub base_next : number_at 4 base 32 ≡ 0
+  base_next = fields_read (fresh_fields revision) (fresh_block size stamp) 4 32 (number_at 4 (fresh_block size stamp) 32) fresh_fit refl ∙ block_next
 
   pub base_use : number_at 4 base 76 ≡ 46
   base_use = fields_read (fresh_fields revision) (fresh_block size stamp) 4 76 46 fresh_fit refl

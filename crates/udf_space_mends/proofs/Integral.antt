@@ -1,5 +1,5 @@
 -- The rule on integrity after its mend.
-use Rattle.std.proofs.Common.{◌≡◌, ◌⊎◌, inl, inr, ℕ, zero, suc, ◌+◌, ◌-◌, ◌*◌, ◌<◌, ◌≤◌, ◌^◌, arith, refl, sym, ◌∙◌, ap, subst, List, [], ◌∷◌, length, replicate, get_or, Bool, true, false, cond, ◌&&◌, ◌||◌, ◌==◌, nat_le, nat_lt, max, Option, Some, None}
+use Rattle.std.proofs.Common.{◌≡◌, ◌⊎◌, inl, inr, ℕ, zero, suc, ◌+◌, ◌-◌, ◌*◌, ◌<◌, ◌≤◌, ◌^◌, arith, refl, sym, ◌∙◌, ap, subst, List, [], ◌∷◌, length, replicate, get_or, Bool, true, false, cond, not, ◌&&◌, ◌||◌, ◌==◌, nat_le, nat_lt, max, Option, Some, None}
 use Rattle.std.specs.Prelude.{count_by}
 use Rattle.std.specs.List.{range_with_len}
 use Rattle.std.proofs.lemmas.Bool.{and_from, and_parts, eq-eqb, eqb-true, cases_eq, le-leb, leb-true, lt-ltb}
@@ -24,11 +24,11 @@ use Rattle.udf_tree_model.specs.Frame.{Frame}
 use Rattle.udf_file_model.specs.Address.{addr}
 use Rattle.udf_tree_model.specs.Ordinary.{files_named, ordinary_directories, ordinary_files}
 use Rattle.udf_rules_model.specs.Bitmap.{free_blocks}
-use Rattle.udf_rules_model.specs.Integrity.{files_in, free_is_stated, greatest_id, integrity_front, integrity_holds, is_formed, is_integrity, is_next_id, is_stated, is_stated_by, last_of, mended_id, next_id_in, partitions_in, prevailing_integrity, use_length_in}
+use Rattle.udf_rules_model.specs.Integrity.{files_in, free_is_stated, greatest_id, integrity_front, integrity_holds, is_formed, is_integrity, is_next_id, is_stated, is_stated_by, last_of, chains_by, mended_id, names_chain, next_extent_in, next_id_in, partitions_in, prevailing_integrity, use_length_in}
 use Rattle.udf_space_mends.specs.IntegrityMend.{CountsFit, HasExtentEdits, IsExtentPlaced, Origin, SameCounts, corrected, files_left, free_left, fresh, fresh_end, integrity_edits, integrity_edits_by, stated_fields}
-use Rattle.udf_space_mends.proofs.Fresh.{base, base_is_bytes, base_long, base_nine, base_one, base_use}
+use Rattle.udf_space_mends.proofs.Fresh.{base, base_is_bytes, base_long, base_next, base_nine, base_one, base_use}
 use Rattle.udf_space_mends.proofs.Prevailing.{IsIn, front, front_ends, front_same, front_starts, last_in}
-use Rattle.udf_space_mends.proofs.Stating.{new_is_integrity, new_is_stated}
+use Rattle.udf_space_mends.proofs.Stating.{new_is_integrity, new_is_stated, next_stays}
 
 -- what stands whole with an identifier has it
 id_stands : (id at : ℕ) (block : List ℕ) → is_id id (id_at at block) ≡ true → identifier block ≡ id
@@ -384,38 +384,117 @@ module _ (f g : Frame) (v : Volume) (disk : ℕ → List ℕ) (blocks : ℕ) (bi
       or_second true y e = refl
       or_second false y e = e
 
+  -- a corrected descriptor prevails where one did that has the form, else a new one
+  module _ (Q : List ℕ → Type 0)
+      (old_has : (s : ℕ) → s < 2 ^ 32 → length (v.disk s) ≡ v.size → is_integrity v.size s (v.disk s) ≡ true → is_formed (v.disk s) ≡ true
+      → prevailing_integrity v.size v.disk extent ≡ Some s → Q (corrected f v blocks bitmap s (v.disk s)))
+      (new_has : (s : ℕ) → s < 2 ^ 32 → Q (fresh f v blocks origin s)) where
+    prevails_with : integrity_holds f v blocks bitmap extent ≡ false
+        → HasExtentEdits v extent (integrity_edits_by f v blocks bitmap origin extent (prevailing_integrity v.size v.disk extent)) disk
+        → (s : ℕ) × (prevailing_integrity v.size disk extent ≡ Some s) × Q (disk s)
+    prevails_with bad edits = by (prevailing_integrity v.size v.disk extent) refl
+      where
+        made : Option ℕ → List (ℕ × List ℕ)
+        made o = integrity_edits_by f v blocks bitmap origin extent o
+
+        moved : (o : Option ℕ) → prevailing_integrity v.size v.disk extent ≡ o → (n : ℕ) → extent.start ≤ n → n < extent.start + many → disk n ≡ look n (made o) (v.disk n)
+        moved o e n l h = edits.each n l h ∙ ap (λ p. look n (made p) (v.disk n)) e
+
+        found : (s : ℕ) (block : List ℕ) → (prevailing_integrity v.size disk extent ≡ Some s) × (disk s ≡ block) → Q block
+            → (s : ℕ) × (prevailing_integrity v.size disk extent ≡ Some s) × Q (disk s)
+        found s block there q = (s, there.0, subst Q (sym there.1) q)
+
+        at : (s : ℕ) (t : Bool) → is_formed (v.disk s) ≡ t → prevailing_integrity v.size v.disk extent ≡ Some s
+            → (s : ℕ) × (prevailing_integrity v.size disk extent ≡ Some s) × Q (disk s)
+        at s true formed e =
+            let i : IsIn (test v.disk) extent.start many s = prevails_in v extent s e in
+            let low : s < 2 ^ 32 = omega (arith, i.below, placed.low) in
+            let long : length (v.disk s) ≡ v.size = placed.whole s i.from i.below in
+            found s (corrected f v blocks bitmap s (v.disk s))
+            (kept_prevails s (corrected f v blocks bitmap s (v.disk s)) e (corrected_is s low long i.passes formed)
+            (λ n l h. moved (Some s) e n l h ∙ ap (λ c. look n ((s, cond c (corrected f v blocks bitmap s (v.disk s)) (fresh f v blocks origin s)) ∷ []) (v.disk n)) formed))
+            (old_has s low long i.passes formed e)
+        at s false formed e =
+            let i : IsIn (test v.disk) extent.start many s = prevails_in v extent s e in
+            let low : s < 2 ^ 32 = omega (arith, i.below, placed.low) in
+            found s (fresh f v blocks origin s)
+            (kept_prevails s (fresh f v blocks origin s) e (fresh_is s low)
+            (λ n l h. moved (Some s) e n l h ∙ ap (λ c. look n ((s, cond c (corrected f v blocks bitmap s (v.disk s)) (fresh f v blocks origin s)) ∷ []) (v.disk n)) formed))
+            (new_has s low)
+
+        by : (o : Option ℕ) → prevailing_integrity v.size v.disk extent ≡ o → (s : ℕ) × (prevailing_integrity v.size disk extent ≡ Some s) × Q (disk s)
+        by (Some s) e = at s (is_formed (v.disk s)) refl e
+        by None e =
+            let some : 1 ≤ many = some_blocks v.size extent.length (omega (arith, placed.least)) (has_length f v blocks bitmap extent bad) in
+            found extent.start (fresh f v blocks origin extent.start) (new_prevails some (moved None e)) (new_has extent.start (omega (arith, placed.low, some)))
+
   broken : integrity_holds f v blocks bitmap extent ≡ false → HasExtentEdits v extent (integrity_edits_by f v blocks bitmap origin extent (prevailing_integrity v.size v.disk extent)) disk
       → integrity_holds g w blocks bitmap extent ≡ true
-  broken bad edits = by (prevailing_integrity v.size v.disk extent) refl
+  broken bad edits =
+      let r = prevails_with (λ block. is_stated g w blocks bitmap block ≡ true) (λ s low long is formed e. corrected_states s low long is formed) (λ s low. fresh_states s low) bad edits in
+      stated_there r.0 (disk r.0) (r.1, refl) r.2
+
+  -- ---- no descriptor that prevails names a further extent
+  fresh_next : (s : ℕ) → s < 2 ^ 32 → next_extent_in (fresh f v blocks origin s) ≡ 0
+  unfolding fresh
+  fresh_next s low =
+      next_stays v.size s 46 (mended_id f v None) (free_blocks f v blocks) blocks (length (ordinary_files f v)) (length (ordinary_directories f v)) (start s low)
+      (base_is_bytes v.size origin.stamp origin.revision placed.least fit.stamp fit.bytes fit.revision)
+      (base_long v.size origin.stamp origin.revision placed.least fit.stamp fit.bytes fit.revision) placed.least placed.most low
+      (base_nine v.size origin.stamp origin.revision placed.least fit.stamp fit.bytes fit.revision)
+      (base_one v.size origin.stamp origin.revision placed.least fit.stamp fit.bytes fit.revision)
+      (base_use v.size origin.stamp origin.revision placed.least fit.stamp fit.bytes fit.revision) (omega (arith, placed.least)) (fresh_all s low)
+      ∙ base_next v.size origin.stamp origin.revision placed.least fit.stamp fit.bytes fit.revision
+
+  corrected_next : (s : ℕ) → s < 2 ^ 32 → length (v.disk s) ≡ v.size → is_integrity v.size s (v.disk s) ≡ true → is_formed (v.disk s) ≡ true
+      → next_extent_in (corrected f v blocks bitmap s (v.disk s)) ≡ next_extent_in (v.disk s)
+  unfolding corrected
+  corrected_next s low long is formed =
+      next_stays v.size s (use_length_in (v.disk s)) (mended_id f v (Some s)) (free_left f v blocks bitmap (v.disk s)) blocks (files_left f v (v.disk s)) (length (ordinary_directories f v)) (v.disk s)
+      (placed.bytes s) long placed.least placed.most low (integrity_parts s low long is formed).0 (formed_parts s low long is formed).0 refl (room s low long is formed) (corrected_fit s low long is formed)
+
+  chain_by : (d : ℕ → List ℕ) (s : ℕ) → prevailing_integrity v.size d extent ≡ Some s → next_extent_in (d s) ≡ 0 → names_chain v.size d extent ≡ false
+  unfolding names_chain
+  chain_by d s e z = ap (chains_by d) e ∙ ap (λ n. not (n == 0)) z
+
+  no_chain_at : (s : ℕ) → names_chain v.size v.disk extent ≡ false → prevailing_integrity v.size v.disk extent ≡ Some s → next_extent_in (v.disk s) ≡ 0
+  unfolding names_chain
+  no_chain_at s none e = eqb-true (next_extent_in (v.disk s)) 0 (not-false (next_extent_in (v.disk s) == 0) (sym (ap (chains_by v.disk) e) ∙ none))
     where
-      made : Option ℕ → List (ℕ × List ℕ)
-      made o = integrity_edits_by f v blocks bitmap origin extent o
+      not-false : (b : Bool) → not b ≡ false → b ≡ true
+      not-false true e = refl
+      not-false false e = absurd (clash e)
+        where
+          clash : true ≡ false → ⊥
+          clash e = cc
 
-      moved : (o : Option ℕ) → prevailing_integrity v.size v.disk extent ≡ o → (n : ℕ) → extent.start ≤ n → n < extent.start + many → disk n ≡ look n (made o) (v.disk n)
-      moved o e n l h = edits.each n l h ∙ ap (λ p. look n (made p) (v.disk n)) e
+  chain_already : ((n : ℕ) → extent.start ≤ n → n < extent.start + many → disk n ≡ v.disk n) → names_chain v.size v.disk extent ≡ false → names_chain v.size disk extent ≡ false
+  unfolding names_chain prevailing_integrity integrity_front
+  chain_already stays none = ap (λ xs. chains_by disk (last_of xs)) fronts ∙ by (last_of (front (test v.disk) extent.start many)) refl none
+    where
+      fronts : front (test disk) extent.start many ≡ front (test v.disk) extent.start many
+      fronts = front_same (test v.disk) (test disk) extent.start many (λ x l h. ap (is_integrity v.size x) (stays x l h))
 
-      at : (s : ℕ) (t : Bool) → is_formed (v.disk s) ≡ t → prevailing_integrity v.size v.disk extent ≡ Some s → integrity_holds g w blocks bitmap extent ≡ true
-      at s true formed e =
-          let i : IsIn (test v.disk) extent.start many s = prevails_in v extent s e in
-          let low : s < 2 ^ 32 = omega (arith, i.below, placed.low) in
-          let long : length (v.disk s) ≡ v.size = placed.whole s i.from i.below in
-          stated_there s (corrected f v blocks bitmap s (v.disk s))
-          (kept_prevails s (corrected f v blocks bitmap s (v.disk s)) e (corrected_is s low long i.passes formed)
-          (λ n l h. moved (Some s) e n l h ∙ ap (λ c. look n ((s, cond c (corrected f v blocks bitmap s (v.disk s)) (fresh f v blocks origin s)) ∷ []) (v.disk n)) formed))
-          (corrected_states s low long i.passes formed)
-      at s false formed e =
-          let i : IsIn (test v.disk) extent.start many s = prevails_in v extent s e in
-          let low : s < 2 ^ 32 = omega (arith, i.below, placed.low) in
-          stated_there s (fresh f v blocks origin s)
-          (kept_prevails s (fresh f v blocks origin s) e (fresh_is s low)
-          (λ n l h. moved (Some s) e n l h ∙ ap (λ c. look n ((s, cond c (corrected f v blocks bitmap s (v.disk s)) (fresh f v blocks origin s)) ∷ []) (v.disk n)) formed))
-          (fresh_states s low)
+      by : (o : Option ℕ) → last_of (front (test v.disk) extent.start many) ≡ o → chains_by v.disk o ≡ false → chains_by disk o ≡ false
+      by None e h = refl
+      by (Some s) e h =
+          let i : IsIn (test v.disk) extent.start many s = last_in (test v.disk) extent.start many s e in
+          ap (λ b. not (next_extent_in b == 0)) (stays s i.from i.below) ∙ h
 
-      by : (o : Option ℕ) → prevailing_integrity v.size v.disk extent ≡ o → integrity_holds g w blocks bitmap extent ≡ true
-      by (Some s) e = at s (is_formed (v.disk s)) refl e
-      by None e =
-          let some : 1 ≤ many = some_blocks v.size extent.length (omega (arith, placed.least)) (has_length f v blocks bitmap extent bad) in
-          stated_there extent.start (fresh f v blocks origin extent.start) (new_prevails some (moved None e)) (fresh_states extent.start (omega (arith, placed.low, some)))
+  pub unchained : HasExtentEdits v extent (integrity_edits f v blocks bitmap origin extent) disk → names_chain v.size v.disk extent ≡ false → names_chain v.size disk extent ≡ false
+  unfolding integrity_edits look
+  unchained edits none = by (integrity_holds f v blocks bitmap extent) refl
+    where
+      made : List (ℕ × List ℕ)
+      made = integrity_edits_by f v blocks bitmap origin extent (prevailing_integrity v.size v.disk extent)
+
+      by : (b : Bool) → integrity_holds f v blocks bitmap extent ≡ b → names_chain v.size disk extent ≡ false
+      by true h = chain_already (λ n l k. edits.each n l k ∙ ap (λ c. look n (cond c [] made) (v.disk n)) h) none
+      by false h =
+          let r = prevails_with (λ block. next_extent_in block ≡ 0)
+          (λ s low long is formed e. corrected_next s low long is formed ∙ no_chain_at s none e) (λ s low. fresh_next s low) h
+          (record { each = λ n l k. edits.each n l k ∙ ap (λ c. look n (cond c [] made) (v.disk n)) h }) in
+          chain_by disk r.0 r.1 r.2
 
   whole_already : integrity_holds f v blocks bitmap extent ≡ true → ((n : ℕ) → extent.start ≤ n → n < extent.start + many → disk n ≡ v.disk n)
       → integrity_holds g w blocks bitmap extent ≡ true
@@ -446,3 +525,57 @@ module _ (f g : Frame) (v : Volume) (disk : ℕ → List ℕ) (blocks : ℕ) (bi
       by : (b : Bool) → integrity_holds f v blocks bitmap extent ≡ b → integrity_holds g w blocks bitmap extent ≡ true
       by true h = whole_already h (λ n l k. edits.each n l k ∙ ap (λ c. look n (cond c [] made) (v.disk n)) h)
       by false h = broken h (record { each = λ n l k. edits.each n l k ∙ ap (λ c. look n (cond c [] made) (v.disk n)) h })
+
+  -- ---- what the mend writes is no anchor: a block stays, or has the identifier of an integrity descriptor or of a terminating one
+  abbrev pub IsOther : List ℕ → List ℕ → Type 0
+  IsOther old new = (new ≡ old) ⊎ ((identifier new ≡ 9) ⊎ (identifier new ≡ 8))
+
+  identified : (s : ℕ) (block : List ℕ) → is_integrity v.size s block ≡ true → identifier block ≡ 9
+  unfolding is_integrity
+  identified s block e = id_stands 9 s block (and_parts (is_id 9 (id_at s block)) _ e).0
+
+  put_other : (n s : ℕ) (block old : List ℕ) (rest : List (ℕ × List ℕ)) → (identifier block ≡ 9) ⊎ (identifier block ≡ 8) → IsOther old (look n rest old)
+      → IsOther old (look n ((s, block) ∷ rest) old)
+  put_other n s block old rest id further = by (cases_eq n s)
+    where
+      by : (n ≡ s) ⊎ (n ≡ s → ⊥) → IsOther old (look n ((s, block) ∷ rest) old)
+      by (inl e) = subst (IsOther old) (sym (look_here n s block rest old e)) (inr id)
+      by (inr ne) = subst (IsOther old) (sym (look_past n s block rest old ne)) further
+
+  pub written_other : (n : ℕ) → IsOther (v.disk n) (look n (integrity_edits f v blocks bitmap origin extent) (v.disk n))
+  unfolding integrity_edits look
+  written_other n = by (integrity_holds f v blocks bitmap extent) refl
+    where
+      nothing : IsOther (v.disk n) (v.disk n)
+      nothing = inl refl
+
+      at : (s : ℕ) (t : Bool) → is_formed (v.disk s) ≡ t → prevailing_integrity v.size v.disk extent ≡ Some s
+          → IsOther (v.disk n) (look n ((s, cond t (corrected f v blocks bitmap s (v.disk s)) (fresh f v blocks origin s)) ∷ []) (v.disk n))
+      at s true formed e =
+          let i : IsIn (test v.disk) extent.start many s = prevails_in v extent s e in
+          let low : s < 2 ^ 32 = omega (arith, i.below, placed.low) in
+          put_other n s (corrected f v blocks bitmap s (v.disk s)) (v.disk n) []
+          (inl (identified s (corrected f v blocks bitmap s (v.disk s)) (corrected_is s low (placed.whole s i.from i.below) i.passes formed))) nothing
+      at s false formed e =
+          let i : IsIn (test v.disk) extent.start many s = prevails_in v extent s e in
+          let low : s < 2 ^ 32 = omega (arith, i.below, placed.low) in
+          put_other n s (fresh f v blocks origin s) (v.disk n) [] (inl (identified s (fresh f v blocks origin s) (fresh_is s low))) nothing
+
+      ends : (c : Bool) (new : List ℕ)
+          → IsOther (v.disk n) (look n (cond c ((extent.start + 1, terminator v.size (extent.start + 1) new) ∷ []) []) (v.disk n))
+      ends true new = put_other n (extent.start + 1) (terminator v.size (extent.start + 1) new) (v.disk n) [] (inr (terminator_identifier v.size (extent.start + 1) new placed.least)) nothing
+      ends false new = nothing
+
+      made : (o : Option ℕ) → prevailing_integrity v.size v.disk extent ≡ o → integrity_holds f v blocks bitmap extent ≡ false
+          → IsOther (v.disk n) (look n (integrity_edits_by f v blocks bitmap origin extent o) (v.disk n))
+      made (Some s) e bad = at s (is_formed (v.disk s)) refl e
+      made None e bad =
+          let some : 1 ≤ many = some_blocks v.size extent.length (omega (arith, placed.least)) (has_length f v blocks bitmap extent bad) in
+          put_other n extent.start (fresh f v blocks origin extent.start) (v.disk n) (fresh_end v extent.start (fresh f v blocks origin extent.start) many)
+          (inl (identified extent.start (fresh f v blocks origin extent.start) (fresh_is extent.start (omega (arith, placed.low, some)))))
+          (ends (nat_lt 1 many) (fresh f v blocks origin extent.start))
+
+      by : (b : Bool) → integrity_holds f v blocks bitmap extent ≡ b
+          → IsOther (v.disk n) (look n (cond b [] (integrity_edits_by f v blocks bitmap origin extent (prevailing_integrity v.size v.disk extent))) (v.disk n))
+      by true e = nothing
+      by false e = made (prevailing_integrity v.size v.disk extent) refl e

@@ -12,7 +12,7 @@ use Rattle.udf_file_model.proofs.Numbers.{number_retagged}
 use Rattle.udf_tree_model.specs.Frame.{Frame}
 use Rattle.udf_tree_model.specs.Ordinary.{files_named, ordinary_directories, ordinary_files}
 use Rattle.udf_rules_model.specs.Bitmap.{free_blocks}
-use Rattle.udf_rules_model.specs.Integrity.{free_is_stated, is_formed, is_integrity, is_next_id, is_stated, partitions_in, use_length_in}
+use Rattle.udf_rules_model.specs.Integrity.{free_is_stated, is_formed, is_integrity, is_next_id, is_stated, next_extent_in, partitions_in, use_length_in}
 use Rattle.udf_space_mends.specs.IntegrityMend.{stated_fields}
 
 module _ (size sector extra id free blocks files directories : ℕ) (base : List ℕ) (bytes : IsBytes base) (long : length base ≡ size)
@@ -50,6 +50,10 @@ module _ (size sector extra id free blocks files directories : ℕ) (base : List
   new_is_integrity =
       and_from (is_id 9 (id_at sector new)) (nat_le (80 + 8 * partitions_in new + use_length_in new) size) (ap (is_id 9) found)
       (le-leb _ _ (omega (arith, partitions_are, use_stays, room)))
+
+  -- the next extent that it names stays
+  pub next_stays : next_extent_in new ≡ number_at 4 base 32
+  next_stays = number 4 32 (number_at 4 base 32) (omega arith) refl
 
   at_120 : number_at 4 new (80 + 8 * partitions_in new + 32) ≡ files
   at_120 = ap (number_at 4 new) (let e : 80 + 8 * partitions_in new + 32 ≡ 120 = omega (arith, partitions_are) in e) ∙ number 4 120 files (omega arith) refl
