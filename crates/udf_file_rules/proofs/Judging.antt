@@ -40,15 +40,15 @@ module _ (f : Frame) (v : listing.Volume) (bitmap : Option Short) (r : Right) (i
   unfolding is_next_id
   next_same id = ap (λ n. nat_le 16 id && nat_lt n id) is.tally.greatest_is
 
-  least_same : least_by r ≡ max 16 (greatest_id f v + 1)
+  pub least_same : least_by r ≡ max 16 (greatest_id f v + 1)
   least_same = ap (λ n. max 16 (n + 1)) is.tally.greatest_is
 
   module _ (block : List ℕ) (i : Integrity) (st : States block i) where
-    formed_same : is_formed_by i ≡ is_formed block
+    pub formed_same : is_formed_by i ≡ is_formed block
     unfolding is_formed
     formed_same = ap (λ n. (n == 1) && nat_le 46 i.use_length) st.partitions ∙ ap (λ n. (partitions_in block == 1) && nat_le 46 n) st.use_length
 
-    one_partition : is_formed block ≡ true → partitions_in block ≡ 1
+    pub one_partition : is_formed block ≡ true → partitions_in block ≡ 1
     unfolding is_formed
     one_partition h = eqb-true (partitions_in block) 1 (and_parts (partitions_in block == 1) _ h).0
 
@@ -70,13 +70,13 @@ module _ (f : Frame) (v : listing.Volume) (bitmap : Option Short) (r : Right) (i
         ∙ ap (λ n. ((files_in block == length (ordinary_files f v)) || (files_in block == files_named f v)) && (n == r.tally.directories)) (st.directories one)
         ∙ ap (λ n. ((files_in block == length (ordinary_files f v)) || (files_in block == files_named f v)) && (directories_in block == n)) is.tally.directories_are
 
-    right_same : is_right r i ≡ is_stated f v r.blocks bitmap block
+    pub right_same : is_right r i ≡ is_stated f v r.blocks bitmap block
     unfolding is_stated
     right_same =
         six_same _ _ _ _ _ _ _ _ _ _ _ _ (ap (λ n. n == 1) st.kind) formed_same free_same (ap (λ n. n == r.blocks) st.blocks)
         (ap (is_next r) st.next_id ∙ next_same (next_id_in block)) files_same
 
-    id_same : next_id_by r i ≡ cond (is_formed block && is_next_id f v (next_id_in block)) (next_id_in block) (max 16 (greatest_id f v + 1))
+    pub id_same : next_id_by r i ≡ cond (is_formed block && is_next_id f v (next_id_in block)) (next_id_in block) (max 16 (greatest_id f v + 1))
     id_same =
         ap (λ b. cond (b && is_next r i.next_id) i.next_id (least_by r)) formed_same
         ∙ ap (λ n. cond (is_formed block && is_next r n) n (least_by r)) st.next_id

@@ -76,8 +76,8 @@ fn known_free(volume: &Volume, free: u32) -> Option<u32>
     }
 }
 
-// What a descriptor of a volume is to state, which has so many free blocks where it has a bitmap.
-fn right_of(volume: &Volume, survey: &Survey, free: u32) -> Right
+/// What a descriptor of a volume is to state, which has so many free blocks where it has a bitmap.
+pub fn right_of(volume: &Volume, survey: &Survey, free: u32) -> Right
     ensures right { (f : Frame) (v : listing.Volume) → IsSurvey f v survey.now → IsFreeCount f v volume.now.length volume.now.bitmap free
         → IsRight f v volume.now.length volume.now.bitmap result }
     ensures blocks { result.blocks ≡ volume.now.length }

@@ -17,3 +17,6 @@ mod tally;
 mod targets;
 
 pub use check::check_files;
+pub use integrity::right_of;
+pub use right::Right;
+pub use tally::Tally;

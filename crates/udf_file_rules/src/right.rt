@@ -10,7 +10,7 @@ const CLOSED: u32 = 1;
 
 /// What a descriptor is to count.
 #[derive(Clone, Copy, Debug, PartialEq, Eq)]
-pub(crate) struct Right {
+pub struct Right {
     pub tally: Tally,
     /// The fitted FIDs of ordinary directories that name no directories, which may count as files too.
     pub files_named: u64,

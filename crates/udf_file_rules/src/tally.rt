@@ -9,7 +9,7 @@ const LEAST_ID: u64 = 16;
 
 /// What is counted of the ordinary entries of a volume.
 #[derive(Clone, Copy, Debug, PartialEq, Eq)]
-pub(crate) struct Tally {
+pub struct Tally {
     /// Those that are no directories.
     pub files: u64,
     pub directories: u64,

@@ -11,6 +11,7 @@ mod tables;
 mod terminator;
 mod volume;
 
+pub use terminator::write_terminator;
 pub use udf_blocks::Plan;
 pub use udf_outside::NoMemory;
 pub use udf_volume::WorkStop;

@@ -15,7 +15,7 @@ const SERIAL: usize = 6;
 
 /// Writes a terminating descriptor for a sector over a whole block, and keeps the version and the serial number of its tag.
 #[tactic(auto, using(crate::proofs::Terminators::is_written))]
-pub(crate) fn write_terminator(block: &mut [u8], sector: u32)
+pub fn write_terminator(block: &mut [u8], sector: u32)
     requires room { 512 ≤ length block.old }
     ensures { block.new ≡ terminator (length block.old) sector block.old }
 {

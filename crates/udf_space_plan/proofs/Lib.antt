@@ -1,0 +1,6 @@
+pub mod FreeRuns
+pub mod SlotBlocks
+pub mod Broken
+pub mod Writing
+pub mod Integrities
+pub mod Surveyed
