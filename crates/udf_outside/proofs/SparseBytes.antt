@@ -3,9 +3,10 @@ use Rattle.std.proofs.Common.{◌≡◌, ◌⊎◌, inl, inr, ⊎_elim, ◌<◌,
 use mathlib.Core.Path.{fun_ext}
 use Rattle.std.specs.List.{range_with_len}
 use Rattle.std.specs.BTreeMap.{BTreeMap}
-use Rattle.std.proofs.lemmas.List.{append-nil, same_lists, replicate-append-replicate, ext_get_or, places, length-replicate, get_or-replicate, get_or_append_left, get_or-append_right, get_or-take, get_or-drop}
+use Rattle.std.proofs.lemmas.List.{append-nil, same_lists, replicate-append-replicate, ext_get_or, places, length-replicate, get_or-replicate, get_or_past, get_or_append_left, get_or-append_right, get_or-take, get_or-drop}
 use Rattle.std.proofs.lemmas.List.FromFn.{length-map-range_with_len, get_or-map-range_with_len}
 use Rattle.std.proofs.lemmas.Bool.{cases_lt}
+use Rattle.udf_model.specs.Bytes.{IsBytes}
 use Rattle.udf_outside.specs.Stops.{is_within, slice_of, put}
 use Rattle.udf_outside.specs.Blocks.{byte_in, sparse_bytes}
 use Rattle.udf_outside.proofs.Ending.{length_put}
@@ -35,6 +36,15 @@ module _ (front : List ℕ) (len : ℕ) (blocks : BTreeMap ℕ (List ℕ)) where
   at_blocks i le lt =
       get_or-append_right front (map (λ i. byte_in blocks i) (range_with_len (length front) (len - length front))) (length front) i 0 refl le
       ∙ get_or-map-range_with_len (λ i. byte_in blocks i) (length front) (len - length front) (i - length front) i 0 (omega arith) (omega arith)
+
+pub sparse_is_bytes : (front : List ℕ) (len : ℕ) (blocks : BTreeMap ℕ (List ℕ)) → length front ≤ len → IsBytes front → ((i : ℕ) → byte_in blocks i < 256) → IsBytes (sparse_bytes front len blocks)
+sparse_is_bytes front len blocks le bytes kept i = ⊎_elim
+    (λ (in_front : i < length front). let there = at_front front len blocks i in_front in let small = bytes i in omega (arith, there))
+    (λ (behind : length front ≤ i). ⊎_elim
+    (λ (inside : i < len). let there = at_blocks front len blocks i behind inside in let small = kept i in omega (arith, there))
+    (λ (past : len ≤ i). let none = get_or_past (sparse_bytes front len blocks) i 0 (omega (arith, length_sparse front len blocks le)) in omega (arith, none))
+    (cases_lt i len))
+    (cases_lt i (length front))
 
 pub sparse_same : (front : List ℕ) (len : ℕ) (old new : BTreeMap ℕ (List ℕ)) → ((i : ℕ) → byte_in new i ≡ byte_in old i) → sparse_bytes front len new ≡ sparse_bytes front len old
 unfolding sparse_bytes

@@ -1,5 +1,6 @@
 //! A bench: an image and a side file, by what was asked of them, what they hold, and what a stop may leave of them.
 ghost use Rattle.std.specs.Prelude.{◌≡◌, ◌+◌, ◌*◌, ◌≤◌, ℕ, List, length as length_of, None, OnOk, is_ok, IfOk};
+ghost use Rattle.udf_model.specs.Bytes.{IsBytes};
 ghost use Rattle.udf_outside.specs.declared.bench.Role.{Role};
 ghost use Rattle.udf_outside.specs.declared.bench.Role.TheVariants.{Image};
 ghost use Rattle.udf_outside.specs.Files.{Files, file_of, IsAttached, IsWritable, Attaches, Resizes};
@@ -40,6 +41,10 @@ pub trait Bench {
 
     /// How often a call failed. It never falls, and rises in a call that failed alone.
     ghost faults: { Self → ℕ };
+
+    /// Each file holds bytes.
+    fn known(&self)
+        ensures { tells → (role : Role) → IsBytes (bytes_of role (held self.now)) };
 
     /// Asks for a file by its name. A role is asked for once, even in vain.
     fn attach(&mut self, role: Role, name: &str, access: Access) -> Result<(), Failed>

@@ -72,6 +72,8 @@ impl<R: Files<File = fs::File> + Alloc + Drop> Bench for FileBench<R> {
 
     ghost sizes = { λ bench role told attached. absurd told };
 
+    fn known(&self) {}
+
     fn attach(&mut self, role: Role, name: &str, access: Access) -> Result<(), Failed> {
         let file = RealFile::attached(&self.runtime, name, access);
         let answer = file.answer();

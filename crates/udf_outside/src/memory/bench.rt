@@ -3,6 +3,8 @@
 #![tactic(auto, unfolding(crate::specs::Memory::files_in, crate::specs::Memory::held_in, crate::specs::Memory::script_in, crate::specs::Undo::held_of, crate::specs::Undo::content_in))]
 
 ghost use Rattle.std.specs.Prelude.{◌≡◌, ◌⊎◌, ℕ, ◌+◌, ◌≤◌, length as length_of, OnOk, OnErr, IfOk, is_ok, None, Some};
+ghost use Rattle.udf_model.specs.Bytes.{IsBytes};
+ghost use Rattle.udf_outside.specs.declared.bench.Role.{Role};
 ghost use Rattle.udf_outside.specs.declared.memory.script.Turn.{Turn};
 ghost use Rattle.udf_outside.specs.Causes.{HasCause};
 ghost use Rattle.udf_outside.specs.Files.{file_of, IsAttached, IsWritable, Attaches, Resizes};
@@ -37,6 +39,13 @@ impl Bench for MemBench {
     ghost faults = { λ bench. (script_in bench).faults };
 
     ghost sizes = { λ bench role told attached. sizes_in bench role };
+
+    fn known(&self)
+        ensures { (role : Role) → IsBytes (bytes_of role (held_in self.now)) }
+    {
+        self.image.file.known();
+        self.side.file.known();
+    }
 
     fn attach(&mut self, role: Role, name: &str, access: Access) -> Result<(), Failed>
         ensures asked { Attaches role name.now access (is_ok result) (files_in self.old) (files_in self.new) }

@@ -1,5 +1,6 @@
 //! One file in memory, with what a stop may leave of it.
 ghost use Rattle.std.specs.Prelude.{◌≡◌, ℕ, ◌+◌, ◌≤◌, ◌||◌, [], false, length, take, IfOk, OnOk, OnErr};
+ghost use Rattle.udf_model.specs.Bytes.{IsBytes};
 ghost use Rattle.udf_outside.specs.Stops.{is_within, slice_of, put};
 ghost use Rattle.udf_outside.specs.Ranges.{covers};
 ghost use Rattle.udf_outside.specs.Undo.{undone};
@@ -48,6 +49,13 @@ impl MemFile {
         ensures { result ≡ length self.now.bytes }
     {
         self.bytes.len()
+    }
+
+    /// What it holds are bytes.
+    pub fn known(&self)
+        ensures { IsBytes self.now.bytes }
+    {
+        self.bytes.known()
     }
 
     /// Fills the slice with the bytes from an offset on.

@@ -2,6 +2,7 @@
 #![tactic(auto, unfolding(crate::specs::Memory::files_in, crate::specs::Memory::held_in, crate::specs::Memory::script_in, crate::specs::Undo::held_of, crate::specs::Undo::content_in))]
 
 ghost use Rattle.std.specs.Prelude.{◌≡◌, [], length, IsTrue, ◌↔◌, IfOk};
+ghost use Rattle.udf_model.specs.Bytes.{IsBytes};
 ghost use Rattle.udf_outside.specs.declared.bench.Role.{Role};
 ghost use Rattle.udf_outside.specs.declared.bench.Role.TheVariants.{Image, Side};
 ghost use Rattle.udf_outside.specs.Stops.{content_of, bytes_of, pair_of, Now, IsSynced};
@@ -9,10 +10,10 @@ ghost use Rattle.udf_outside.specs.Memory.{files_in, held_in, script_in, unasked
 ghost use Rattle.udf_outside.specs.Refill.{Refills, is_spared, spared_range};
 ghost use Rattle.udf_outside.specs.Script.{not_begun};
 
-use crate::Role;
 use crate::memory::file::MemFile;
 use crate::memory::script::{Script, Stop};
 use crate::memory::{MemBench, bench_of};
+use crate::{Bench, Role};
 use std::alloc::{AllocError, Global};
 
 impl MemBench {
@@ -75,11 +76,14 @@ impl MemBench {
         ensures now { IfOk result (λ bench. Now (held_in self) (pair_of (held_in bench))) }
         ensures begins { IfOk result (λ bench. BeginsWith (bytes_of Image (held_in bench)) (bytes_of Side (held_in bench)) bench) }
         ensures synced { IfOk result (λ bench. IsSynced (held_in bench)) }
+        ensures known { IfOk result (λ bench. (role : Role) → IsBytes (bytes_of role (held_in bench))) }
         ensures script { IfOk result (λ bench. script_in bench ≡ not_begun [] None) }
     {
         let (alloc, image, side, script) = self.into_parts();
         let image = image.refilled(fill, script.spared(Role::Image))?;
         let side = side.refilled(fill, script.spared(Role::Side))?;
-        Ok(bench_of(alloc, image, side, Script::new(Vec::new(alloc), None)))
+        let bench = bench_of(alloc, image, side, Script::new(Vec::new(alloc), None));
+        bench.known();
+        Ok(bench)
     }
 }

@@ -1,6 +1,7 @@
 //! Bytes that may be mostly zeros: a front that is held whole, and behind it blocks, of which those of zeros are not held.
 ghost use Rattle.std.specs.Prelude.{◌≡◌, ℕ, ◌+◌, ◌-◌, ◌<◌, ◌≤◌, min, length, replicate, slice_index, IsTrue, ◌↔◌, IfOk, OnOk, OnErr, ◌⊎◌, All};
 ghost use Rattle.std.specs.BTreeMap.{keys};
+ghost use Rattle.udf_model.specs.Bytes.{IsBytes};
 ghost use Rattle.udf_outside.specs.Blocks.{AgreeIn};
 ghost use Rattle.udf_outside.specs.Stops.{slice_of, put};
 ghost use Rattle.udf_outside.specs.Undo.{part_bytes};
@@ -26,14 +27,19 @@ pub struct Sparse {
 
 impl Model for Sparse {
     ghost use Rattle.std.specs.Prelude.{ℕ, List, ◌<◌, ◌≤◌, ◌^◌, length};
-    ghost use Rattle.udf_outside.specs.Blocks.{sparse_bytes};
+    ghost use Rattle.udf_outside.specs.Blocks.{byte_in, sparse_bytes};
 
     ghost Value = { List ℕ };
 
     ghost view = { λ sparse. sparse_bytes sparse.front.items sparse.len sparse.blocks };
 
-    ghost invariant = { λ sparse. (length sparse.front.items ≤ sparse.len) × (sparse.len < 2 ^ 64) };
+    ghost invariant = { λ sparse. (length sparse.front.items ≤ sparse.len) × (sparse.len < 2 ^ 64) × ((i : ℕ) → byte_in sparse.blocks i < 256) };
 }
+
+/// What a slice holds are bytes.
+fn known_bytes(bytes: &[u8])
+    ensures { IsBytes bytes.now }
+{}
 
 /// How many of so many bytes from an offset on lie in the front.
 fn in_front(front: &[u8], at: u64, n: usize) -> usize
@@ -97,6 +103,13 @@ impl Sparse {
         ensures { result ≡ length self.now }
     {
         self.len
+    }
+
+    /// These are bytes.
+    pub fn known(&self)
+        ensures { IsBytes self.now }
+    {
+        known_bytes(&self.front);
     }
 
     /// Fills the slice with the bytes from an offset on.

@@ -4,4 +4,4 @@ use Rattle.udf_outside.proofs.Moments.{begun_synced}
 use Rattle.udf_outside.proofs.memory.MemBench.restarted.Goals as goal
 
 pub returns-clause-synced : goal.returns-clause-synced
-returns-clause-synced c = subst (λ (held : Held). IsSynced held) (sym c.bench_of.ensures.held) (begun_synced _ _)
+returns-clause-synced c = subst (λ (held : Held). IsSynced held) (sym c.bench_of-bench.ensures.held) (begun_synced _ _)
