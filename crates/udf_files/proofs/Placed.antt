@@ -11,8 +11,9 @@ use Rattle.udf_file_model.specs.Listing.{Volume as Listed, is_placed}
 use Rattle.udf_file_model.specs.Place.{Place}
 use Rattle.udf_volume_model.specs.Areas.{table_or_none}
 use Rattle.udf_volume_model.specs.Areas as model
+use Rattle.udf_volume_model.specs.Layout.{are_packets_of}
 use Rattle.udf_volume_model.specs.SparingTable.{Table}
-use Rattle.udf_volume.specs.Areas.{partition_stated, table_used}
+use Rattle.udf_volume.specs.Areas.{areas_stated, partition_stated, table_used}
 use Rattle.std.specs.Prelude.{Result}
 use Rattle.udf_outside.specs.Sectors.{disk_of}
 use Rattle.udf_outside.specs.Stops.{Held, bytes_of}
@@ -20,7 +21,7 @@ use Rattle.udf_outside.specs.declared.bench.Role.TheVariants.{Image}
 use Rattle.udf_layer.specs.StandsAt.{none_inner}
 use Rattle.udf_layer.specs.declared.missing.LayerStop.{LayerStop}
 use Rattle.udf_volume.specs.FileSet.{FindsFileSet, IsFileSet, site_of}
-use Rattle.udf_volume.specs.Taken.{IsOpenedOf}
+use Rattle.udf_volume.specs.Taken.{IsOpenedOf, IsTaken}
 use Rattle.udf_volume.specs.declared.opened.Opened.{Opened}
 use Rattle.udf_volume.specs.declared.site.FileSet.{FileSet}
 use Rattle.udf_volume.specs.declared.volume.Volume.{Volume}
@@ -49,6 +50,13 @@ pub same_places : (image : List ℕ) (opened : Opened) (place : Places) → IsOp
 unfolding places_of
 same_places image opened place is h =
     fun_ext h ∙ ap (λ (t : Table). lone_places 0 (place_by (partition_stated opened.volume) t)) (ap (λ (l : model.Layout). l.table) is.layout)
+
+-- the packets of its sparing table are lawful
+pub lawful_packets : (opened : Opened) → IsTaken opened.volume opened.layout
+    → are_packets_of opened.volume.blocks opened.volume.anchor (record { areas = areas_stated opened.volume; table = table_or_none opened.layout.table }) ≡ true
+lawful_packets opened taken =
+    subst (λ (areas : List model.Area). are_packets_of opened.volume.blocks opened.volume.anchor (record { areas = areas; table = table_or_none opened.layout.table }) ≡ true)
+    taken.areas taken.packets
 
 -- the frame of a volume's files is that of its file set
 pub has_set : (volume : Volume) (image : List ℕ) (set : FileSet) → IsFileSet (site_in volume image) set → HasFileSet (frame_in volume image) set

@@ -1,5 +1,5 @@
 -- The files of an opened volume.
-use Rattle.std.specs.Prelude.{◌≡◌, ◌<◌, ℕ, List, Option, Some, None, Result, Ok, Err}
+use Rattle.std.specs.Prelude.{◌≡◌, ◌⊎◌, ◌<◌, ℕ, true, List, [], Option, Some, None, Result, Ok, Err}
 use Rattle.udf_field.specs.declared.address.Addr.{Addr}
 use Rattle.udf_file_model.specs.Address.{Places, lone_places}
 use Rattle.udf_layer.specs.declared.missing.LayerStop.{LayerStop}
@@ -8,8 +8,9 @@ use Rattle.udf_partitions.specs.Base.{base_place}
 use Rattle.udf_tree_model.specs.Frame.{setting_of, tree_of}
 use Rattle.udf_tree_model.specs.Laws.{HasSoundStarts}
 use Rattle.udf_tree_model.specs.Stated.{IsFileSetPlaced}
+use Rattle.udf_volume_model.specs.Layout.{are_packets_of}
 use Rattle.udf_volume_model.specs.SparingTable.{Table}
-use Rattle.udf_volume.specs.Areas.{partition_stated}
+use Rattle.udf_volume.specs.Areas.{areas_stated, partition_stated}
 use Rattle.udf_rules_model.specs.Places.{place_by}
 use Rattle.udf_tree.specs.Beyond.{HoldsFileSet}
 use Rattle.udf_tree.specs.Survey.{IsSurvey}
@@ -43,6 +44,8 @@ FindsFiles volume image (Err stops.Memory) = Unit {0}
 pub record AreOverVolume (volume : Volume) (files : Files) : Type 0 where
   pub volume_is : files.volume ≡ volume
   pub inside : (a : Addr) (s : ℕ) → places_in files a ≡ Some s → s < volume.blocks
-  -- by some sparing table, or none
+  -- by some sparing table, or none, whose packets have blocks and are lawful in the volume
   pub table : Table
+  pub usable : (table.pairs ≡ []) ⊎ (0 < table.packet)
   pub placed : (a : Addr) → places_in files a ≡ lone_places 0 (place_by (partition_stated volume) table) a
+  pub packets : are_packets_of volume.blocks volume.anchor (record { areas = areas_stated volume; table = table }) ≡ true

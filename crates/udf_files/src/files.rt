@@ -1,16 +1,17 @@
 //! What of a volume's files a check and a repair work from.
-ghost use Rattle.std.specs.Prelude.{◌≡◌, true, IfErr, IfOk};
+ghost use Rattle.std.specs.Prelude.{◌≡◌, ◌⊎◌, ◌<◌, [], true, IfErr, IfOk};
 ghost use Rattle.udf_model.specs.Size.{is_size};
 ghost use Rattle.udf_outside.specs.Stops.{bytes_of};
 ghost use Rattle.udf_outside.specs.Reads.{OnlyReads};
 ghost use Rattle.udf_outside.specs.declared.bench.Role.TheVariants.{Image};
+ghost use Rattle.udf_volume_model.specs.Areas.{table_or_none};
 ghost use Rattle.udf_volume.specs.Taken.{IsOpenOver, IsOpenedOf};
 ghost use Rattle.udf_files.specs.Files.{AreOverVolume, FindsFiles};
 ghost use Rattle.udf_files.specs.Refusal.{RefusesTheFiles};
 
 use std::alloc::Global;
 use udf_integrity::integrity_of;
-use udf_layer::One;
+use udf_layer::{One, SparingTable};
 use udf_outside::Bench;
 use udf_partitions::{Base, partitions};
 use udf_tree::{Survey, survey};
@@ -24,6 +25,15 @@ pub struct Files {
     pub parts: One<Base>,
     pub set: FileSet,
     pub survey: Survey,
+}
+
+// Sees that the packets of a sparing table have blocks, where there is a table.
+fn see_packets(table: &Option<SparingTable>)
+    ensures { ((table_or_none table.now).pairs ≡ []) ⊎ (0 < (table_or_none table.now).packet) }
+{
+    if let Some(table) = table {
+        let _blocks = table.packet();
+    }
 }
 
 /// The files of a volume that was opened of the image, or the first refusal: `Profile(IntegrityChain)` where the prevailing integrity
@@ -41,6 +51,7 @@ pub fn files_of<B: Bench>(alloc: Global, bench: &mut B, opened: Opened) -> Resul
     let Opened { volume, layout } = opened;
     let mut block = vec![in alloc; 0u8; volume.size as usize]?;
     integrity_of(bench, &volume, &mut block)?;
+    see_packets(&layout.table);
     let parts = partitions(&volume, layout.table);
     let set = file_set(alloc, bench, &volume, &parts)?;
     let survey = survey(alloc, bench, &parts, volume.size, &set)?;

@@ -52,7 +52,7 @@ fn append_block<B: Bench, P: Parts>(
 }
 
 /// The bytes of an extent in the base partition, of so many blocks. Each block of it is read once.
-pub(crate) fn read_area<B: Bench, P: Parts>(
+pub fn read_area<B: Bench, P: Parts>(
     alloc: Global,
     bench: &mut B,
     parts: &P,

@@ -10,5 +10,6 @@ mod taken;
 mod tests;
 mod verdict;
 
+pub use area::read_area;
 pub use free::free_blocks;
 pub use verdict::{BitmapVerdict, bitmap_verdict};

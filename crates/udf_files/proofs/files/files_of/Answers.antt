@@ -15,7 +15,7 @@ use Rattle.udf_tree.specs.Entries.{missing_of}
 use Rattle.udf_tree.specs.Survey.{IsSurvey, View}
 use Rattle.udf_rules_model.specs.Files.{files_in, frame_in, places_of, site_in}
 use Rattle.udf_files.specs.Files.{FindsFiles}
-use Rattle.udf_files.proofs.Placed.{has_set, holds_set, inside_whole, low_partition, same_places, set_found, set_placed}
+use Rattle.udf_files.proofs.Placed.{has_set, holds_set, inside_whole, lawful_packets, low_partition, same_places, set_found, set_placed}
 use Rattle.udf_files.proofs.Refusing.{chained, none_asked, not_refused, set_refused, tree_refused}
 use Rattle.udf_files.proofs.files.files_of.Goals as goal
 
@@ -102,5 +102,7 @@ returns-clause-over g c = record {
   volume_is = refl;
   inside = c.partitions-parts.ensures.inside;
   table = table_or_none c.args.opened.layout.table;
+  usable = c.see_packets.ensures;
   placed = c.partitions-parts.ensures.place;
+  packets = lawful_packets c.args.opened c.requires.over.taken;
 }
