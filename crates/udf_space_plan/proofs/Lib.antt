@@ -4,3 +4,5 @@ pub mod Broken
 pub mod Writing
 pub mod Integrities
 pub mod Surveyed
+pub mod Spreading
+pub mod Bitmaps

@@ -3,3 +3,5 @@ pub mod Sequence
 pub mod Descriptor
 pub mod Counts
 pub mod Prevailing
+pub mod Extent
+pub mod Bitmap
