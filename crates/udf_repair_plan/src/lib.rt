@@ -1,6 +1,7 @@
 //! The plan of a repair of all rules: what its planners put, one rule after another, and behind it the plan of the volume's own mend, is
-//! exactly the difference of the mended image, though blocks of entries that stay are left out. The code of this crate is one law, which
-//! no program cites yet. It stands on the law of the mended image and on the planners.
+//! exactly the difference of the mended image, though blocks of entries that stay are left out. Towards the layer above: `draft_volume`
+//! makes what needs the opened volume alone, and `plan_repair` with that and the volume's files the plan. It stands on the law of the
+//! mended image and on the planners.
 #![tactic(auto)]
 
 ghost use Rattle.std.specs.Prelude.{◌≡◌, ◌++◌, ℕ, List, Ok, true};
@@ -14,6 +15,14 @@ ghost use Rattle.udf_volume.specs.declared.volume.Volume.{Volume};
 ghost use Rattle.udf_wanted.specs.Wanted.{LookAlike, changed};
 ghost use Rattle.udf_mended_image.specs.Accepted.{mended, repairing};
 ghost use Rattle.udf_repair_plan.specs.Put.{all_put};
+
+mod draft;
+mod plan;
+
+pub use draft::{Draft, draft_volume};
+pub use plan::plan_repair;
+pub use udf_blocks::Plan;
+pub use udf_volume::WorkStop;
 
 /// Where wanted blocks look like what all rules put, those that differ from an accepted image's, by ascending sectors, are the difference of
 /// the mended image.
