@@ -2,23 +2,22 @@
 use Rattle.std.proofs.Common.{◌≡◌, ℕ, zero, suc, List, [], ◌∷◌, refl, sym, ◌∙◌, ap, true, false, Option, Some, None, Result, Ok, Err}
 use Rattle.udf_outside.specs.Stops.{Pair}
 use Rattle.udf_volume_model.specs.Size.{size_of}
-use Rattle.udf_repair_model.specs.Accepted.{is_accepted, is_unbroken}
-use Rattle.udf_repair_model.specs.Sized.{accepted_by, is_accepted_as, unbroken_by, is_unbroken_as}
+use Rattle.udf_mended_image.specs.Accepted.{is_accepted, is_unbroken, repairing}
+use Rattle.udf_mended_image.specs.Sized.{accepted_by, is_accepted_as, unbroken_by, is_unbroken_as}
 use Rattle.udf_layer.specs.declared.missing.Missing.{Missing}
 use Rattle.udf_layer.specs.declared.missing.Missing.TheVariants.{Anchor}
 use Rattle.udf_volume.specs.declared.volume.Volume.{Volume}
 use Rattle.udf_volume.specs.Taken.{opening}
-use Rattle.udf_volume.specs.Writable.{writable_opening}
 use Rattle.udf_redo.specs.declared.stop.RedoStop.{RedoStop}
 use Rattle.udf_redo.specs.declared.stop.RedoStop.TheVariants as stop
 use Rattle.udf_redo.specs.Settled.{settled}
 use Rattle.udf_rules.specs.declared.finding.Finding.{Finding}
 use Rattle.udf_top.specs.declared.outcome.Outcome.TheVariants as outcome
-use Rattle.udf_rules.specs.Findings.{findings_in}
 use Rattle.udf_top.specs.Repairing.{replaying, refused_log, repaired_as, mend_of, mend_sized, repair_from, repair_of, written_in}
-use Rattle.udf_top.specs.Udffsck.{by_findings, by_refusal, check_at, check_sized, check_of, found_at, found_by, refusal_at, refusal_by, rules_by, rules_hold_at}
-use Rattle.udf_top.proofs.Checks.{nothing_checked, checked_nothing}
-use Rattle.udf_top.proofs.Mending.{accepted_ok, not_accepted, mend_ok, mend_refused, none_found, none_unbroken_image, unbroken_finds_none}
+use Rattle.udf_top.specs.Checking.{found_at, refusal_at, refusal_by}
+use Rattle.udf_top.specs.Udffsck.{by_findings, by_refusal, check_at, check_sized, check_of}
+use Rattle.udf_top.proofs.Checks.{none_found, unbroken_finds_none}
+use Rattle.udf_top.proofs.Mending.{accepted_ok, not_accepted, mend_ok, mend_refused, none_unbroken_image}
 
 -- no findings
 found_none : (findings : List Finding) → by_findings findings ≡ outcome.Clean → findings ≡ []
@@ -45,39 +44,32 @@ module _ (size : ℕ) (image : List ℕ) where
   clean_refused (Some missing) e clean =
       absurd (let no : outcome.Refused missing ≡ outcome.Clean = sym (ap (λ (r : Option Missing). by_refusal r (found_at size image)) e) ∙ clean in cc)
 
-  clean_at : check_at size image ≡ outcome.Clean → (refusal_at size image ≡ None) × (rules_hold_at size image ≡ true)
-  unfolding refusal_at found_at rules_hold_at
+  clean_at : check_at size image ≡ outcome.Clean → (refusal_at size image ≡ None) × (is_unbroken size image ≡ true)
+  unfolding refusal_at
   clean_at clean =
       let is = clean_refused (refusal_at size image) refl clean in
       (is.0, by_answer (opening size image) refl is.0 is.1) where
-        by_answer : (found : Result Volume Missing) → opening size image ≡ found → refusal_at size image ≡ None → found_at size image ≡ [] → rules_hold_at size image ≡ true
-        by_answer (Ok volume) e none nothing =
-            ap (λ (r : Result Volume Missing). rules_by size r image) e
-            ∙ nothing_checked size image volume e (sym (ap (λ (r : Result Volume Missing). found_by r image) e) ∙ nothing)
+        by_answer : (found : Result Volume Missing) → opening size image ≡ found → refusal_at size image ≡ None → found_at size image ≡ [] → is_unbroken size image ≡ true
+        by_answer (Ok volume) e none nothing = none_found size image volume e nothing
         by_answer (Err missing) e none nothing =
             absurd (let no : Some missing ≡ None = sym (ap (λ (r : Result Volume Missing). refusal_by r image) e) ∙ none in cc)
 
-  at_clean : refusal_at size image ≡ None → rules_hold_at size image ≡ true → check_at size image ≡ outcome.Clean
-  unfolding check_at found_at rules_hold_at
+  at_clean : refusal_at size image ≡ None → is_unbroken size image ≡ true → check_at size image ≡ outcome.Clean
+  unfolding check_at
   at_clean none rules =
-      ap (λ (r : Option Missing). by_refusal r (found_at size image)) none ∙ ap by_findings (by_answer (opening size image) refl rules) where
-        by_answer : (found : Result Volume Missing) → opening size image ≡ found → rules_hold_at size image ≡ true → found_at size image ≡ []
-        by_answer (Ok volume) e rules =
-            ap (λ (r : Result Volume Missing). found_by r image) e
-            ∙ checked_nothing size image volume e (sym (ap (λ (r : Result Volume Missing). rules_by size r image) e) ∙ rules)
-        by_answer (Err missing) e rules = absurd (let no : false ≡ true = sym (ap (λ (r : Result Volume Missing). rules_by size r image) e) ∙ rules in cc)
+      ap (λ (r : Option Missing). by_refusal r (found_at size image)) none ∙ ap by_findings (unbroken_finds_none size image rules)
 
   mend_clean : (replayed : ℕ) → mend_of size replayed image ≡ outcome.Clean → (replayed ≡ 0) × ((is_accepted size image ≡ true) × (is_unbroken size image ≡ true))
-  mend_clean replayed clean = by_answer (writable_opening size image) refl where
-    by_answer : (found : Result Volume Missing) → writable_opening size image ≡ found → (replayed ≡ 0) × ((is_accepted size image ≡ true) × (is_unbroken size image ≡ true))
+  mend_clean replayed clean = by_answer (repairing size image) refl where
+    by_answer : (found : Result Volume Missing) → repairing size image ≡ found → (replayed ≡ 0) × ((is_accepted size image ≡ true) × (is_unbroken size image ≡ true))
     by_answer (Ok volume) e =
-        let none = repaired_none replayed (findings_in size image) (written_in size image) (sym (mend_ok size image replayed volume e) ∙ clean) in
+        let none = repaired_none replayed (found_at size image) (written_in size image) (sym (mend_ok size image replayed volume e) ∙ clean) in
         (none.0, (accepted_ok size image volume e, none_unbroken_image size image volume e none.1))
     by_answer (Err missing) e = absurd (let no : outcome.Refused missing ≡ outcome.Clean = sym (mend_refused size image replayed missing e) ∙ clean in cc)
 
   clean_mend : is_accepted size image ≡ true → is_unbroken size image ≡ true → mend_of size 0 image ≡ outcome.Clean
-  clean_mend accepted unbroken = by_answer (writable_opening size image) refl where
-    by_answer : (found : Result Volume Missing) → writable_opening size image ≡ found → mend_of size 0 image ≡ outcome.Clean
+  clean_mend accepted unbroken = by_answer (repairing size image) refl where
+    by_answer : (found : Result Volume Missing) → repairing size image ≡ found → mend_of size 0 image ≡ outcome.Clean
     by_answer (Ok volume) e =
         mend_ok size image 0 volume e ∙ ap (λ (fs : List Finding). repaired_as 0 fs (written_in size image)) (unbroken_finds_none size image unbroken)
     by_answer (Err missing) e = absurd (let no : true ≡ false = sym accepted ∙ not_accepted size image missing e in cc)
@@ -85,7 +77,7 @@ module _ (size : ℕ) (image : List ℕ) where
 -- at the block size that is given or found
 module _ (given : Option ℕ) (image : List ℕ) where
   abbrev pub IsCleanAt : ℕ → Type 0
-  IsCleanAt size = (refusal_at size image ≡ None) × (rules_hold_at size image ≡ true)
+  IsCleanAt size = (refusal_at size image ≡ None) × (is_unbroken size image ≡ true)
 
   pub clean_check : check_of given image ≡ outcome.Clean → (size : ℕ) × ((size_of given image ≡ Some size) × IsCleanAt size)
   clean_check clean = by_size (size_of given image) refl where
@@ -93,7 +85,7 @@ module _ (given : Option ℕ) (image : List ℕ) where
     by_size None e = absurd (let no : outcome.Refused Anchor ≡ outcome.Clean = sym (ap (λ (f : Option ℕ). check_sized f image) e) ∙ clean in cc)
     by_size (Some size) e = (size, (e, clean_at size image (sym (ap (λ (f : Option ℕ). check_sized f image) e) ∙ clean)))
 
-  pub check_clean : (size : ℕ) → size_of given image ≡ Some size → refusal_at size image ≡ None → rules_hold_at size image ≡ true
+  pub check_clean : (size : ℕ) → size_of given image ≡ Some size → refusal_at size image ≡ None → is_unbroken size image ≡ true
       → check_of given image ≡ outcome.Clean
   check_clean size e none rules = ap (λ (f : Option ℕ). check_sized f image) e ∙ at_clean size image none rules
 

@@ -1,19 +1,20 @@
 -- How a repair ends.
-use Rattle.std.proofs.Common.{◌≡◌, ◌⊎◌, inl, inr, ⊎_elim, ◌≤◌, ℕ, zero, suc, List, [], ◌∷◌, ◌++◌, refl, sym, ◌∙◌, ap, subst, Bool, true, false, cond, Option, Some, Result, Ok, Err}
+use Rattle.std.proofs.Common.{◌≡◌, ◌⊎◌, inl, inr, ⊎_elim, ℕ, zero, suc, List, [], ◌∷◌, ◌++◌, refl, sym, ◌∙◌, ap, subst, Bool, true, false, cond, Option, Some, Result, Ok, Err}
 use Rattle.std.specs.Str.{bytes_eq}
+use Rattle.udf_model.specs.Bytes.{IsBytes}
+use Rattle.udf_model.specs.Size.{is_size}
 use Rattle.udf_outside.specs.declared.bench.Role.TheVariants.{Image, Side}
 use Rattle.udf_outside.specs.Stops.{Held, Pair, bytes_of, pair_of, moment, IsSynced, LeavesOnly}
 use Rattle.udf_outside.proofs.Moments.{seen_now, now_counts}
 use Rattle.udf_outside.proofs.Runs.{leaves_weaker, leaves_then}
 use Rattle.udf_volume_model.specs.Size.{size_of}
-use Rattle.udf_repair_model.specs.Accepted.{is_accepted, is_unbroken, mended, mend}
-use Rattle.udf_repair_model.specs.Sized.{accepted_by, is_accepted_as, unbroken_by}
-use Rattle.udf_repair_model.proofs.Repair.{law, mend_accepted, still_accepted, size_kept}
+use Rattle.udf_mended_image.specs.Accepted.{is_accepted, is_unbroken, mend, repairing}
+use Rattle.udf_mended_image.specs.Sized.{accepted_by, is_accepted_as, unbroken_by}
+use Rattle.udf_mended_image.proofs.Repair.{accepted_after, size_stays, unbroken_after}
 use Rattle.udf_layer.specs.declared.missing.Missing.{Missing}
 use Rattle.udf_layer.specs.declared.missing.LayerStop.{LayerStop}
 use Rattle.udf_layer.specs.declared.missing.LayerStop.TheVariants as size_stop
 use Rattle.udf_volume.specs.declared.volume.Volume.{Volume}
-use Rattle.udf_volume.specs.Writable.{writable_opening}
 use Rattle.udf_redo.specs.declared.stop.RedoStop.{RedoStop}
 use Rattle.udf_redo.specs.declared.stop.RedoStop.TheVariants as stop
 use Rattle.udf_redo.specs.Settled.{settled, IsFree, CanGoOn}
@@ -21,7 +22,7 @@ use Rattle.udf_redo.specs.Faults.{Answers}
 use Rattle.udf_rules.specs.declared.finding.Finding.{Finding}
 use Rattle.udf_top.specs.declared.outcome.Outcome.{Outcome}
 use Rattle.udf_top.specs.declared.outcome.Outcome.TheVariants as outcome
-use Rattle.udf_rules.specs.Findings.{findings_in}
+use Rattle.udf_top.specs.Checking.{found_at}
 use Rattle.udf_top.specs.Texts.{text_of, replayed_text}
 use Rattle.udf_top.specs.Repairing.{replaying, refused_log, refused_size, repaired_as, mend_of, mend_sized, said_sized, written_in, repair_from, repair_of, said_from, repair_said}
 use Rattle.udf_top.specs.Endings.{Ending, Mended, Told, DeviceFailed, Failed, ending_of, IsEnd, IsMendedOrFailed, IsUnopened, HasEnded, HasRepaired, HasRepairedOrFailed, HasOpenedNoGate}
@@ -182,26 +183,26 @@ said_as wanted given medium name side pair is same apart =
 
 -- an accepted image is repaired
 accepted_ends : (size replayed : ℕ) (image : List ℕ) → is_accepted size image ≡ true → HasRepairedOrFailed (mend_of size replayed image)
-accepted_ends size replayed image accepted = by_opened (writable_opening size image) refl where
+accepted_ends size replayed image accepted = by_opened (repairing size image) refl where
   by_findings : (k : ℕ) (findings : List Finding) (written : ℕ) → HasRepairedOrFailed (repaired_as k findings written)
   by_findings zero [] written = tt
   by_findings zero (finding ∷ rest) written = tt
   by_findings (suc k) findings written = tt
 
-  by_opened : (found : Result Volume Missing) → writable_opening size image ≡ found → HasRepairedOrFailed (mend_of size replayed image)
-  by_opened (Ok volume) e = subst HasRepairedOrFailed (sym (mend_ok size image replayed volume e)) (by_findings replayed (findings_in size image) (written_in size image))
+  by_opened : (found : Result Volume Missing) → repairing size image ≡ found → HasRepairedOrFailed (mend_of size replayed image)
+  by_opened (Ok volume) e = subst HasRepairedOrFailed (sym (mend_ok size image replayed volume e)) (by_findings replayed (found_at size image) (written_in size image))
   by_opened (Err missing) e = absurd (let no : true ≡ false = sym accepted ∙ not_accepted size image missing e in cc)
 
 -- what was repaired was accepted
 repaired_accepted : (size replayed : ℕ) (image : List ℕ) → HasRepaired (mend_of size replayed image) → is_accepted size image ≡ true
-repaired_accepted size replayed image repaired = by_opened (writable_opening size image) refl where
-  by_opened : (found : Result Volume Missing) → writable_opening size image ≡ found → is_accepted size image ≡ true
+repaired_accepted size replayed image repaired = by_opened (repairing size image) refl where
+  by_opened : (found : Result Volume Missing) → repairing size image ≡ found → is_accepted size image ≡ true
   by_opened (Ok volume) e = accepted_ok size image volume e
   by_opened (Err missing) e = absurd (subst HasRepaired (mend_refused size image replayed missing e) repaired)
 
 -- The whole: `middle` is after the replay, `end` after the difference was written.
 module _ (given : Option ℕ) (size replayed : ℕ) (old middle end : Held) (result : Outcome) (sized : size_of given (settled (pair_of old)) ≡ Some size)
-    (large : 512 ≤ size) (has : HasBegun given old middle)
+    (known : is_size size ≡ true) (bytes : IsBytes (settled (pair_of old))) (has : HasBegun given old middle)
     (answer : replaying (pair_of old) ≡ Ok replayed) (moments : CanGoOn (pair_of old) → LeavesOnly old middle (IsSettling (pair_of old)))
     (image_is : bytes_of Image middle ≡ settled (pair_of old)) (free : IsFree (bytes_of Side middle)) (rests : IsSynced middle)
     (mends : Mends size replayed middle end result) where
@@ -215,7 +216,7 @@ module _ (given : Option ℕ) (size replayed : ℕ) (old middle end : Held) (res
   safe =
       leaves_then old middle end (IsSafe given (pair_of old)) has.safe
       (leaves_weaker middle end (IsMending size (settled (pair_of old)) (mend size (settled (pair_of old)))) (IsSafe given (pair_of old))
-      (λ pair is. safe_mending given size (pair_of old) sized pair can (pair_of middle) large image_is here is)
+      (λ pair is. safe_mending given size (pair_of old) sized pair can (pair_of middle) known bytes image_is here is)
       (subst (λ (v : List ℕ). LeavesOnly middle end (IsMending size v (mend size v))) image_is mends.moments))
 
   is_mend : HasEnded result → result ≡ mend_of size replayed (settled (pair_of old))
@@ -233,11 +234,10 @@ module _ (given : Option ℕ) (size replayed : ℕ) (old middle end : Held) (res
       let j = settled (pair_of old) in
       let accepted = repaired_accepted size replayed j (subst HasRepaired (is_mend (ended_repaired result repaired)) repaired) in
       let is : IsMended (mend size j) end = subst (λ (v : List ℕ). IsMended (mend size v) end) image_is (mends.done repaired) in
-      let made : bytes_of Image end ≡ mended size j = is.holds ∙ mend_accepted size j accepted in
-      let kept : size_of given (bytes_of Image end) ≡ Some size = ap (size_of given) is.holds ∙ size_kept given size j sized in record {
+      let kept : size_of given (bytes_of Image end) ≡ Some size = ap (size_of given) is.holds ∙ size_stays size j known bytes given sized in record {
         holds = is.holds ∙ sym (target_goes (bytes_of Image old) (bytes_of Side old) given can ∙ sized_mend given size j sized);
-        accepted = ap (λ (found : Option ℕ). accepted_by found (bytes_of Image end)) kept ∙ ap (is_accepted size) made ∙ still_accepted size j large accepted;
-        unbroken = ap (λ (found : Option ℕ). unbroken_by found (bytes_of Image end)) kept ∙ ap (is_unbroken size) made ∙ (law size j large accepted).rules;
+        accepted = ap (λ (found : Option ℕ). accepted_by found (bytes_of Image end)) kept ∙ ap (is_accepted size) is.holds ∙ accepted_after size j known bytes accepted;
+        unbroken = ap (λ (found : Option ℕ). unbroken_by found (bytes_of Image end)) kept ∙ ap (is_unbroken size) is.holds ∙ unbroken_after size j known bytes accepted;
         side = is.side;
         synced = is.synced;
       }

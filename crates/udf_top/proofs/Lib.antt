@@ -3,11 +3,13 @@ pub mod Outcomes
 pub mod Stepping
 pub mod Settling
 pub mod Said
+pub mod VolumeFound
+pub mod Checks
 pub mod Mending
 pub mod Safe
 pub mod Commanded
 pub mod Ends
 pub mod Rerun
-pub mod Checks
 pub mod Cleans
 pub mod Examining
+pub mod Inspecting

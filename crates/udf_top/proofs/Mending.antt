@@ -1,132 +1,107 @@
 -- What a repair of a settled image answers, and what it leaves of the files.
-use Rattle.std.proofs.Common.{◌≡◌, ℕ, zero, suc, ◌<◌, ◌≤◌, arith, refl, sym, ◌∙◌, ap, subst, List, [], ◌∷◌, length, map, Bool, true, false, cond, eqb, Option, Some, None, Result, Ok, Err, is_ok}
+use Rattle.std.proofs.Common.{◌≡◌, ⊎_elim, ℕ, zero, suc, ◌<◌, ◌≤◌, arith, refl, sym, ◌∙◌, ap, subst, List, [], ◌∷◌, length, true, false, eqb, Result, Ok, Err, is_ok}
 use Rattle.std.proofs.lemmas.List.{length-map}
-use Rattle.std.proofs.lemmas.Bool.{eqb-true}
-use Rattle.udf_model.specs.Image.{block_of, blocks_in}
+use Rattle.std.proofs.lemmas.Bool.{cases_Bool, eqb-true, false≢true}
+use Rattle.udf_model.specs.Bytes.{IsBytes}
+use Rattle.udf_model.specs.Size.{is_size}
 use Rattle.udf_outside.specs.declared.bench.Role.TheVariants.{Image, Side}
 use Rattle.udf_outside.specs.Stops.{Held, Pair, bytes_of, pair_of, IsSynced, LeavesOnly}
 use Rattle.udf_outside.proofs.Runs.{leaves_same}
-use Rattle.udf_volume_model.specs.Kept as model
-use Rattle.udf_volume_model.specs.Kept.{kept_sequence_of}
-use Rattle.udf_volume_model.specs.Rules as model_rules
-use Rattle.udf_volume_model.specs.AllRules.{findings}
 use Rattle.udf_volume_model.specs.Edits.{put_blocks}
 use Rattle.udf_volume_model.specs.Plans.{IsRewrite}
-use Rattle.udf_volume_model.specs.Opened.{is_volume_unbroken, is_volume_unbroken_by, difference, plan_of}
-use Rattle.udf_repair_model.specs.Accepted.{is_accepted, is_unbroken, mended, mend}
+use Rattle.udf_volume_model.specs.Opened.{difference, plan_of}
 use Rattle.udf_volume_laws.proofs.Applied.{plan_gives}
-use Rattle.udf_repair_model.proofs.Repair.{mend_stays}
-use Rattle.udf_repair_model.proofs.Repair.{mend_accepted, mend_alike, mend_differs}
-use Rattle.udf_volume_laws.proofs.Findings as laws
 use Rattle.udf_layer.specs.declared.missing.Missing.{Missing}
-use Rattle.udf_layer.specs.declared.missing.Missing.TheVariants.{WriteProtected}
 use Rattle.udf_volume.specs.declared.volume.Volume.{Volume}
-use Rattle.udf_volume.specs.Taken.{IsOpenedOf, Opens, opening}
-use Rattle.udf_volume.specs.declared.opened.Opened.{Opened}
-use Rattle.udf_volume.proofs.Openings.{of_image}
-use Rattle.udf_volume.specs.Writable.{writable_opening, is_protected, by_protection}
-use Rattle.udf_volume.proofs.Described.{opened_ok}
-use Rattle.udf_repair_model.proofs.Repair.{accepted_is}
+use Rattle.udf_volume.specs.Taken.{opening}
+use Rattle.udf_mended_image.specs.Accepted.{is_accepted, is_unbroken, mended, mend, repairing}
+use Rattle.udf_mended_image.proofs.Repair.{alike, by_mend, differs, still}
+use Rattle.udf_mended_image.proofs.Unbroken.{accepts}
 use Rattle.udf_redo.specs.Settled.{IsFree}
+use Rattle.udf_words.specs.declared.cause.Cause.{Cause}
 use Rattle.udf_rules.specs.declared.finding.Finding.{Finding}
 use Rattle.udf_top.specs.declared.outcome.Outcome.{Outcome}
 use Rattle.udf_top.specs.declared.outcome.Outcome.TheVariants as outcome
-use Rattle.udf_rules.specs.Findings.{finding_of, findings_by, findings_in}
+use Rattle.udf_top.specs.Checking.{found_at}
 use Rattle.udf_top.specs.Texts.{text_of, mend_text}
 use Rattle.udf_top.specs.Repairing.{repaired_as, mend_by, mend_of, written_in, text_by_volume, mend_said}
 use Rattle.udf_top.specs.Endings.{Ending, Mended, Told, DeviceFailed, Failed, ending_of, IsEnd, IsMendedEnd, HasEnded, HasRepaired, HasOpenedNoGate}
 use Rattle.udf_top.specs.Steps.{IsMending, IsMended, Mends}
+use Rattle.udf_top.proofs.Checks.{none_found, unbroken_finds_none}
 use Rattle.udf_top.proofs.Settling.{settled_free}
 use Rattle.udf_top.proofs.Stepping.{resting}
 
--- a volume that may be written is one that is opened
-by_protected : (volume wanted : Volume) (b : Bool) → cond b (Err WriteProtected) (Ok volume) ≡ Ok wanted → volume ≡ wanted
-by_protected volume wanted true e = absurd (cc)
-by_protected volume wanted false e = cc
+-- the volume that a repair takes is one that is opened
+pub opened_ok : (size : ℕ) (image : List ℕ) (volume : Volume) → repairing size image ≡ Ok volume → opening size image ≡ Ok volume
+opened_ok size image volume e = (accepts size image volume e).opens
 
-pub opened_ok_as : (size : ℕ) (image : List ℕ) (volume : Volume) → writable_opening size image ≡ Ok volume → opening size image ≡ Ok volume
-unfolding writable_opening
-opened_ok_as size image volume = by_opened (opening size image) where
-  by_opened : (found : Result Volume Missing) → by_protection found ≡ Ok volume → found ≡ Ok volume
-  by_opened (Ok other) e = ap (λ (v : Volume). Ok v) (by_protected other volume (is_protected other) e)
-  by_opened (Err missing) e = e
+pub accepted_ok : (size : ℕ) (image : List ℕ) (volume : Volume) → repairing size image ≡ Ok volume → is_accepted size image ≡ true
+unfolding is_accepted
+accepted_ok size image volume e = ap is_ok e
 
-pub opened_of : (size : ℕ) (image : List ℕ) (opened : Opened) → Opens (writable_opening size image) (block_of size image) (Ok opened)
-    → opened.volume.size ≡ size → IsOpenedOf image opened
-opened_of size image opened (e, layout) is = of_image size image opened (opened_ok_as size image opened.volume e, layout) is
+pub not_accepted : (size : ℕ) (image : List ℕ) (missing : Missing) → repairing size image ≡ Err missing → is_accepted size image ≡ false
+unfolding is_accepted
+not_accepted size image missing e = ap is_ok e
 
-pub accepted_ok : (size : ℕ) (image : List ℕ) (volume : Volume) → writable_opening size image ≡ Ok volume → is_accepted size image ≡ true
-accepted_ok size image volume e = accepted_is size image ∙ ap is_ok e
+-- the mended image of one that is accepted and breaks a rule
+mend_is : (size : ℕ) (image : List ℕ) → is_accepted size image ≡ true → is_unbroken size image ≡ false → mend size image ≡ mended size image
+mend_is size image accepted broken =
+    by_mend size image (λ after. after ≡ mended size image) (λ a n. refl)
+    (λ stays. ⊎_elim (λ refused. absurd (false≢true (sym refused ∙ accepted))) (λ unbroken. absurd (false≢true (sym broken ∙ unbroken))) stays)
 
--- the plan of the volume's rules is that of the repair
-pub plan_is : (size : ℕ) (image : List ℕ) (volume : Volume) (plan : List (ℕ × List ℕ)) → writable_opening size image ≡ Ok volume
+-- where something is found a rule is broken
+broken_by : (size : ℕ) (image : List ℕ) → 1 ≤ length (found_at size image) → is_unbroken size image ≡ false
+broken_by size image some = ⊎_elim
+    (λ unbroken. absurd (let none : length (found_at size image) ≡ 0 = ap length (unbroken_finds_none size image unbroken) in omega (arith, none, some)))
+    (λ broken. broken)
+    (cases_Bool (is_unbroken size image))
+
+-- the plan of all rules is that of the repair
+pub plan_is : (size : ℕ) (image : List ℕ) (volume : Volume) (plan : List (ℕ × List ℕ)) → repairing size image ≡ Ok volume → 1 ≤ length (found_at size image)
     → plan ≡ plan_of size image (mended size image) → plan ≡ plan_of size image (mend size image)
-plan_is size image volume plan e is = is ∙ ap (plan_of size image) (sym (mend_accepted size image (accepted_ok size image volume e)))
-
-pub not_accepted : (size : ℕ) (image : List ℕ) (missing : Missing) → writable_opening size image ≡ Err missing → is_accepted size image ≡ false
-not_accepted size image missing e = accepted_is size image ∙ ap is_ok e
-
--- findings come exactly where a rule is broken
-map_none : (founds : List model_rules.Finding) → map finding_of founds ≡ [] → founds ≡ []
-map_none [] e = refl
-map_none (found ∷ rest) e = absurd (cc)
+plan_is size image volume plan e some is = is ∙ ap (plan_of size image) (sym (mend_is size image (accepted_ok size image volume e) (broken_by size image some)))
 
 module _ (size : ℕ) (image : List ℕ) where
-  by_volume : (found : Option model.KeptSequence) → is_volume_unbroken_by size image found ≡ true → findings_by size image found ≡ []
-  by_volume None e = absurd (cc)
-  by_volume (Some v) e = ap (λ (fs : List model_rules.Finding). map finding_of fs) (laws.unbroken size (blocks_in size image) (block_of size image) v e)
-
-  pub unbroken_finds_none : is_unbroken size image ≡ true → findings_in size image ≡ []
-  unfolding is_volume_unbroken findings_in
-  unbroken_finds_none e = by_volume (kept_sequence_of size image) e
-
-  pub none_found : (v : model.KeptSequence) → kept_sequence_of size image ≡ Some v → findings_in size image ≡ [] → is_unbroken size image ≡ true
-  unfolding is_volume_unbroken findings_in
-  none_found v is e =
-      ap (is_volume_unbroken_by size image) is
-      ∙ laws.broken size (blocks_in size image) (block_of size image) v (map_none _ (sym (ap (findings_by size image) is) ∙ e))
-
-  pub none_unbroken_image : (volume : Volume) → writable_opening size image ≡ Ok volume → findings_in size image ≡ [] → is_unbroken size image ≡ true
-  none_unbroken_image volume e none =
-      let d = opened_ok size image volume (opened_ok_as size image volume e) in none_found d.0 d.1.found none
+  pub none_unbroken_image : (volume : Volume) → repairing size image ≡ Ok volume → found_at size image ≡ [] → is_unbroken size image ≡ true
+  none_unbroken_image volume e none = none_found size image volume (opened_ok size image volume e) none
 
   pub nothing_written : is_unbroken size image ≡ true → written_in size image ≡ 0
   unfolding written_in
-  nothing_written e = ap length (mend_alike size image e)
+  nothing_written e = ap length (alike size image e)
 
-  pub some_written : 512 ≤ size → is_accepted size image ≡ true → is_unbroken size image ≡ false → 1 ≤ written_in size image
+  pub some_written : is_size size ≡ true → IsBytes image → is_accepted size image ≡ true → is_unbroken size image ≡ false → 1 ≤ written_in size image
   unfolding written_in
-  some_written high accepted broken = mend_differs size image high accepted broken
+  some_written sized bytes accepted broken = differs size image sized bytes accepted broken
 
   pub written_is : length (plan_of size image (mend size image)) ≡ written_in size image
   unfolding plan_of written_in
   written_is = length-map (difference size image (mend size image)) _
 
-  pub said_ok : (medium : List ℕ) (volume : Volume) → writable_opening size image ≡ Ok volume
-      → mend_said size medium image ≡ mend_text medium (findings_in size image) (written_in size image)
+  pub said_ok : (medium : List ℕ) (volume : Volume) → repairing size image ≡ Ok volume
+      → mend_said size medium image ≡ mend_text medium (found_at size image) (written_in size image)
   unfolding mend_said
-  said_ok medium volume e = ap (λ (r : Result Volume Missing). text_by_volume medium r (findings_in size image) (written_in size image)) e
+  said_ok medium volume e = ap (λ (r : Result Volume Missing). text_by_volume medium r (found_at size image) (written_in size image)) e
 
   -- what is put before the difference is written
-  pub text_is : (medium : List ℕ) (volume : Volume) (findings : List Finding) (plan : List (ℕ × List ℕ)) (count : ℕ) → writable_opening size image ≡ Ok volume
-      → findings ≡ findings_in size image → plan ≡ plan_of size image (mend size image) → count ≡ length plan → mend_text medium findings count ≡ mend_said size medium image
+  pub text_is : (medium : List ℕ) (volume : Volume) (findings : List Finding) (plan : List (ℕ × List ℕ)) (count : ℕ) → repairing size image ≡ Ok volume
+      → findings ≡ found_at size image → plan ≡ plan_of size image (mend size image) → count ≡ length plan → mend_text medium findings count ≡ mend_said size medium image
   text_is medium volume findings plan count e found is n =
       ap (λ (fs : List Finding). mend_text medium fs count) found
-      ∙ ap (λ (k : ℕ). mend_text medium (findings_in size image) k) (n ∙ ap length is ∙ written_is)
+      ∙ ap (λ (k : ℕ). mend_text medium (found_at size image) k) (n ∙ ap length is ∙ written_is)
       ∙ sym (said_ok medium volume e)
 
-  pub said_refused : (medium : List ℕ) (missing : Missing) → writable_opening size image ≡ Err missing → mend_said size medium image ≡ text_of medium (outcome.Refused missing)
+  pub said_refused : (medium : List ℕ) (missing : Missing) → repairing size image ≡ Err missing → mend_said size medium image ≡ text_of medium (outcome.Refused missing)
   unfolding mend_said
-  said_refused medium missing e = ap (λ (r : Result Volume Missing). text_by_volume medium r (findings_in size image) (written_in size image)) e
+  said_refused medium missing e = ap (λ (r : Result Volume Missing). text_by_volume medium r (found_at size image) (written_in size image)) e
 
-  pub mend_ok : (replayed : ℕ) (volume : Volume) → writable_opening size image ≡ Ok volume
-      → mend_of size replayed image ≡ repaired_as replayed (findings_in size image) (written_in size image)
+  pub mend_ok : (replayed : ℕ) (volume : Volume) → repairing size image ≡ Ok volume
+      → mend_of size replayed image ≡ repaired_as replayed (found_at size image) (written_in size image)
   unfolding mend_of
-  mend_ok replayed volume e = ap (λ (r : Result Volume Missing). mend_by r replayed (findings_in size image) (written_in size image)) e
+  mend_ok replayed volume e = ap (λ (r : Result Volume Missing). mend_by r replayed (found_at size image) (written_in size image)) e
 
-  pub mend_refused : (replayed : ℕ) (missing : Missing) → writable_opening size image ≡ Err missing → mend_of size replayed image ≡ outcome.Refused missing
+  pub mend_refused : (replayed : ℕ) (missing : Missing) → repairing size image ≡ Err missing → mend_of size replayed image ≡ outcome.Refused missing
   unfolding mend_of
-  mend_refused replayed missing e = ap (λ (r : Result Volume Missing). mend_by r replayed (findings_in size image) (written_in size image)) e
+  mend_refused replayed missing e = ap (λ (r : Result Volume Missing). mend_by r replayed (found_at size image) (written_in size image)) e
 
   -- an empty plan changes nothing
   by_length : (plan : List (ℕ × List ℕ)) → length plan ≡ 0 → plan ≡ []
@@ -143,6 +118,22 @@ module _ (size : ℕ) (image : List ℕ) where
   repaired_broken replayed [] written h = absurd (omega (arith, h))
   repaired_broken zero (finding ∷ rest) written h = refl
   repaired_broken (suc k) (finding ∷ rest) written h = refl
+
+-- a run that found nothing ends as such, and not as one whose words or names are wrong
+module _ (replayed : ℕ) (result : Outcome) (is : HasEnded result → result ≡ repaired_as replayed [] 0) where
+  by_replayed : (P : Outcome → Type 0) → P outcome.Clean → ((k : ℕ) → P (outcome.Repaired (suc k) 0)) → P (repaired_as replayed [] 0)
+  by_replayed P clean repaired = by replayed
+    where
+      by : (k : ℕ) → P (repaired_as k [] 0)
+      by zero = clean
+      by (suc k) = repaired k
+
+  pub no_usage : (cause : Cause) → result ≡ outcome.Usage cause → ⊥
+  no_usage cause e =
+      by_replayed (λ r. r ≡ outcome.Usage cause → ⊥) (λ h. absurd (cc)) (λ k h. absurd (cc)) (sym (is (subst HasEnded (sym e) tt)) ∙ e)
+
+  pub no_same_file : result ≡ outcome.SameFile → ⊥
+  no_same_file e = by_replayed (λ r. r ≡ outcome.SameFile → ⊥) (λ h. absurd (cc)) (λ k h. absurd (cc)) (sym (is (subst HasEnded (sym e) tt)) ∙ e)
 
 pub clean_text : (medium : List ℕ) (written : ℕ) → text_of medium outcome.Clean ≡ mend_text medium [] written
 unfolding text_of mend_text
@@ -185,7 +176,7 @@ module _ (size : ℕ) (old new : Held) (settled : IsSynced old) (free : IsFree (
     }
 
     -- the image was refused
-    pub mends_refused : (missing : Missing) → writable_opening size (bytes_of Image old) ≡ Err missing → (HasEnded result → result ≡ outcome.Refused missing)
+    pub mends_refused : (missing : Missing) → repairing size (bytes_of Image old) ≡ Err missing → (HasEnded result → result ≡ outcome.Refused missing)
         → Mends size replayed old new result
     mends_refused missing e is = record {
       outcome = λ ended. is ended ∙ sym (mend_refused size (bytes_of Image old) replayed missing e);
@@ -196,7 +187,7 @@ module _ (size : ℕ) (old new : Held) (settled : IsSynced old) (free : IsFree (
     }
 
     -- no rule is broken
-    pub mends_unbroken : (volume : Volume) → writable_opening size (bytes_of Image old) ≡ Ok volume → findings_in size (bytes_of Image old) ≡ []
+    pub mends_unbroken : (volume : Volume) → repairing size (bytes_of Image old) ≡ Ok volume → found_at size (bytes_of Image old) ≡ []
         → (HasEnded result → result ≡ repaired_as replayed [] 0) → Mends size replayed old new result
     mends_unbroken volume e none is =
         let image = bytes_of Image old in
@@ -206,22 +197,22 @@ module _ (size : ℕ) (old new : Held) (settled : IsSynced old) (free : IsFree (
               ∙ ap (λ (fs : List Finding). repaired_as replayed fs (written_in size image)) (sym none)
               ∙ sym (mend_ok size image replayed volume e);
           moments = quiet _;
-          done = λ repaired. mended_still _ (sym (mend_stays size image unbroken));
+          done = λ repaired. mended_still _ (sym (still size image unbroken));
           unopened = λ opened. same;
           unbroken = λ holds. same;
         }
 
 -- the difference was written, or a stop came
-pub mends_broken : (size replayed count : ℕ) (old new : Held) (result : Outcome) (volume : Volume) → writable_opening size (bytes_of Image old) ≡ Ok volume
-    → 1 ≤ length (findings_in size (bytes_of Image old)) → count ≡ written_in size (bytes_of Image old)
+pub mends_broken : (size replayed count : ℕ) (old new : Held) (result : Outcome) (volume : Volume) → repairing size (bytes_of Image old) ≡ Ok volume
+    → 1 ≤ length (found_at size (bytes_of Image old)) → count ≡ written_in size (bytes_of Image old)
     → (HasEnded result → result ≡ outcome.Repaired replayed count) → LeavesOnly old new (IsMending size (bytes_of Image old) (mend size (bytes_of Image old)))
     → (HasEnded result → IsMended (mend size (bytes_of Image old)) new) → (HasOpenedNoGate result → new ≡ old) → Mends size replayed old new result
 mends_broken size replayed count old new result volume e broken count_is is moments done unopened =
     let image = bytes_of Image old in record {
       outcome = λ ended. is ended ∙ ap (λ (n : ℕ). outcome.Repaired replayed n) count_is
-          ∙ sym (repaired_broken size image replayed (findings_in size image) (written_in size image) broken) ∙ sym (mend_ok size image replayed volume e);
+          ∙ sym (repaired_broken size image replayed (found_at size image) (written_in size image) broken) ∙ sym (mend_ok size image replayed volume e);
       moments = moments;
       done = λ repaired. done (ended_repaired result repaired);
       unopened = unopened;
-      unbroken = λ unbroken. absurd (let none : length (findings_in size image) ≡ 0 = ap length (unbroken_finds_none size image unbroken) in omega (arith, none, broken));
+      unbroken = λ unbroken. absurd (let none : length (found_at size image) ≡ 0 = ap length (unbroken_finds_none size image unbroken) in omega (arith, none, broken));
     }

@@ -1,18 +1,15 @@
 -- The outcome of a check, and a sink that a run has not written to.
-use Rattle.std.proofs.Common.{◌≡◌, ℕ, ◌+◌, ◌*◌, ◌/◌, ◌%◌, ◌≤◌, arith, ◌++◌, sym, ◌∙◌, ap, List, Option, Some, None, Result, Ok, Err}
+use Rattle.std.proofs.Common.{◌≡◌, ℕ, ◌++◌, sym, ◌∙◌, ap, List, Option, Some, None, Result, Ok, Err}
 use Rattle.std.proofs.lemmas.List.{append-nil}
-use Rattle.std.proofs.lemmas.Nat.{div-add-mod'}
 use Rattle.udf_layer.specs.declared.missing.Missing.{Missing}
-use Rattle.udf_volume.specs.declared.volume.Volume.{Volume}
 use Rattle.udf_volume_model.specs.Size.{size_of}
-use Rattle.udf_volume.specs.Taken.{opening}
 use Rattle.udf_layer.specs.declared.missing.LayerStop.{LayerStop}
 use Rattle.udf_layer.specs.declared.missing.LayerStop.TheVariants as stops
 use Rattle.udf_rules.specs.declared.finding.Finding.{Finding}
 use Rattle.udf_top.specs.declared.outcome.Outcome.TheVariants as outcome
-use Rattle.udf_rules.specs.Findings.{findings_in}
 use Rattle.udf_top.specs.Texts.{replayed_text}
-use Rattle.udf_top.specs.Udffsck.{by_findings, by_refusal, check_at, found_at, refusal_at, check_sized, check_of, Examines, ExaminesAt, HoldsFront}
+use Rattle.udf_top.specs.Checking.{found_at, refusal_at}
+use Rattle.udf_top.specs.Udffsck.{by_findings, by_refusal, check_at, check_sized, check_of, Examines, ExaminesAt, HoldsFront}
 
 refused : (size : ℕ) (image : List ℕ) (missing : Missing) → refusal_at size image ≡ Some missing → outcome.Refused missing ≡ check_at size image
 unfolding check_at

@@ -3,12 +3,12 @@ use Rattle.std.proofs.Common.{◌≡◌, inl, inr, ℕ, Option, Some, None, List
 use Rattle.std.proofs.Common.{Ok, true}
 use Rattle.udf_outside.specs.declared.bench.Role.TheVariants.{Image, Side}
 use Rattle.udf_outside.specs.Stops.{Held, Pair, bytes_of, pair_of}
-use Rattle.udf_repair_model.proofs.Repair.{mend_stays}
+use Rattle.udf_mended_image.proofs.Repair.{still}
 use Rattle.udf_redo.specs.declared.side.SideState.TheVariants.{Empty, Closed, Open}
 use Rattle.udf_redo.specs.Log.{head_in}
 use Rattle.udf_redo.specs.Settled.{settled, IsOpenLog, IsFree}
 use Rattle.udf_volume_model.specs.Size.{size_of}
-use Rattle.udf_repair_model.specs.Sized.{mend_as, mend_by, is_unbroken_as, unbroken_by}
+use Rattle.udf_mended_image.specs.Sized.{mend_as, mend_by, is_unbroken_as, unbroken_by}
 use Rattle.std.proofs.Common.{ap}
 use Rattle.udf_top.specs.Repairing.{target}
 use Rattle.udf_top.specs.Headline.{IsDone}
@@ -21,7 +21,7 @@ stays_as : (given : Option ℕ) (image : List ℕ) → is_unbroken_as given imag
 stays_as given image unbroken = by_size (size_of given image) unbroken where
   by_size : (found : Option ℕ) → unbroken_by found image ≡ true → mend_by found image ≡ image
   by_size None e = refl
-  by_size (Some size) e = mend_stays size image e
+  by_size (Some size) e = still size image e
 
 pub chained : (given : Option ℕ) (start : Pair) (pairs : List Pair) → AreLeft given start pairs → target given (last_of start pairs) ≡ target given start
 chained given start [] left = refl

@@ -1,13 +1,15 @@
 -- What a stop leaves of a repair is safe.
-use Rattle.std.proofs.Common.{◌≡◌, ◌⊎◌, inl, inr, ⊎_elim, ◌≤◌, ℕ, Option, Some, List, length, get_or, refl, sym, ◌∙◌, ap, subst, Result, Ok, Err}
+use Rattle.std.proofs.Common.{◌≡◌, ◌⊎◌, inl, inr, ⊎_elim, ℕ, true, Option, Some, List, length, get_or, refl, sym, ◌∙◌, ap, subst, Result, Ok, Err}
+use Rattle.udf_model.specs.Bytes.{IsBytes}
+use Rattle.udf_model.specs.Size.{is_size}
 use Rattle.udf_outside.specs.declared.bench.Role.TheVariants.{Image, Side}
 use Rattle.udf_outside.specs.Stops.{Held, Pair, bytes_of, pair_of, IsSynced, LeavesOnly}
 use Rattle.udf_outside.proofs.Runs.{leaves_same, leaves_weaker}
 use Rattle.udf_volume_model.specs.Opened.{plan_of}
-use Rattle.udf_repair_model.specs.Accepted.{mend}
+use Rattle.udf_mended_image.specs.Accepted.{mend}
 use Rattle.udf_volume_model.specs.Size.{size_of}
-use Rattle.udf_repair_model.specs.Sized.{mend_as, mend_by}
-use Rattle.udf_repair_model.proofs.Repair.{mend_twice, size_kept}
+use Rattle.udf_mended_image.specs.Sized.{mend_as, mend_by}
+use Rattle.udf_mended_image.proofs.Repair.{size_stays, twice}
 use Rattle.udf_redo.specs.declared.side.SideState.{SideState}
 use Rattle.udf_redo.specs.declared.side.SideState.TheVariants.{Empty, Closed, Open}
 use Rattle.udf_redo.specs.declared.stop.RedoStop.{RedoStop}
@@ -82,13 +84,13 @@ sized_mend given size image sized = ap (λ (found : Option ℕ). mend_by found i
 
 module _ (given : Option ℕ) (size : ℕ) (start : Pair) (sized : size_of given (settled start) ≡ Some size) (pair : Pair) (can : CanGoOn start) where
   -- `middle` is the pair after the replay
-  pub safe_mending : (middle : Pair) → 512 ≤ size → middle.0 ≡ settled start → IsSettling start middle → IsMending size (settled start) (mend size (settled start)) pair → IsSafe given start pair
-  safe_mending middle large same before is =
+  pub safe_mending : (middle : Pair) → is_size size ≡ true → IsBytes (settled start) → middle.0 ≡ settled start → IsSettling start middle → IsMending size (settled start) (mend size (settled start)) pair → IsSafe given start pair
+  safe_mending middle known bytes same before is =
       let j = settled start in
       let wanted : target given start ≡ mend size j = target_goes start.0 start.1 given can ∙ sized_mend given size j sized in record {
         same_target = target_goes pair.0 pair.1 given is.goes_on
             ∙ ⊎_elim (λ as_is. ap (mend_as given) as_is ∙ sized_mend given size j sized)
-            (λ done. ap (mend_as given) done ∙ sized_mend given size (mend size j) (size_kept given size j sized) ∙ mend_twice size j large) is.stands_for
+            (λ done. ap (mend_as given) done ∙ sized_mend given size (mend size j) (size_stays size j known bytes given sized) ∙ twice size j known bytes) is.stands_for
             ∙ sym wanted;
         gate = ⊎_elim (λ log. inl log)
             (λ here. inr (⊎_elim (λ as_is. inl (here ∙ as_is)) (λ done. inr (here ∙ done ∙ sym wanted)) is.stands_for))

@@ -4,7 +4,7 @@ use Rattle.udf_outside.specs.declared.bench.Role.TheVariants.{Image, Side}
 use Rattle.udf_outside.specs.Stops.{Held, Pair, bytes_of, pair_of, IsSynced, LeavesOnly}
 use Rattle.udf_volume_model.specs.Opened.{plan_of}
 use Rattle.udf_volume_model.specs.Size.{size_of}
-use Rattle.udf_repair_model.specs.Sized.{is_accepted_as, is_unbroken_as}
+use Rattle.udf_mended_image.specs.Sized.{is_accepted_as, is_unbroken_as}
 use Rattle.udf_layer.specs.declared.missing.Missing.{Missing}
 use Rattle.udf_redo.specs.Log.{head_in, sealed_in}
 use Rattle.udf_redo.specs.Settled.{settled, IsOpenLog, IsFree, CanGoOn, IsElsewhere}

@@ -2,9 +2,11 @@ pub mod Endings
 pub mod Status
 pub mod Words
 pub mod Texts
+pub mod Checking
 pub mod Attaching
 pub mod Repairing
 pub mod Headline
 pub mod Chains
 pub mod Udffsck
 pub mod Steps
+pub mod Inspecting

@@ -3,14 +3,13 @@ use Rattle.std.specs.Prelude.{ℕ, zero, suc, Option, Some, None, if◌then◌el
 use Rattle.udf_outside.specs.Stops.{Pair}
 use Rattle.udf_volume_model.specs.Opened.{difference}
 use Rattle.udf_volume_model.specs.Size.{size_of}
-use Rattle.udf_repair_model.specs.Accepted.{mend}
-use Rattle.udf_repair_model.specs.Sized.{mend_as}
+use Rattle.udf_mended_image.specs.Accepted.{mend, repairing}
+use Rattle.udf_mended_image.specs.Sized.{mend_as}
 use Rattle.udf_layer.specs.declared.missing.Missing.{Missing}
 use Rattle.udf_layer.specs.declared.missing.Missing.TheVariants.{Anchor}
 use Rattle.udf_layer.specs.declared.missing.LayerStop.{LayerStop}
 use Rattle.udf_layer.specs.declared.missing.LayerStop.TheVariants as size_stop
 use Rattle.udf_volume.specs.declared.volume.Volume.{Volume}
-use Rattle.udf_volume.specs.Writable.{writable_opening}
 use Rattle.udf_redo.specs.declared.side.SideState.{SideState}
 use Rattle.udf_redo.specs.declared.side.SideState.TheVariants.{Empty, Closed, Open}
 use Rattle.udf_redo.specs.declared.stop.RedoStop.{RedoStop}
@@ -20,7 +19,7 @@ use Rattle.udf_redo.specs.Settled.{settled, replay_answer}
 use Rattle.udf_rules.specs.declared.finding.Finding.{Finding}
 use Rattle.udf_top.specs.declared.outcome.Outcome.{Outcome}
 use Rattle.udf_top.specs.declared.outcome.Outcome.TheVariants as outcome
-use Rattle.udf_rules.specs.Findings.{findings_in}
+use Rattle.udf_top.specs.Checking.{found_at}
 use Rattle.udf_top.specs.Texts.{text_of, replayed_text, mend_text}
 
 -- how many blocks of an open log of the image are to be replayed, or why the side file is no log of it
@@ -63,7 +62,7 @@ mend_by (Ok volume) replayed findings written = repaired_as replayed findings wr
 
 -- the outcome of a repair of an image, after a replay of so many blocks
 unfoldable pub mend_of : ℕ → ℕ → List ℕ → Outcome
-mend_of size replayed image = mend_by (writable_opening size image) replayed (findings_in size image) (written_in size image)
+mend_of size replayed image = mend_by (repairing size image) replayed (found_at size image) (written_in size image)
 
 -- the same at the block size that is given or found; without one the image is refused
 abbrev pub mend_sized : Option ℕ → ℕ → List ℕ → Outcome
@@ -85,7 +84,7 @@ text_by_volume medium (Ok volume) findings written = mend_text medium findings w
 
 -- what is printed of an image that is to be repaired
 unfoldable pub mend_said : ℕ → List ℕ → List ℕ → List ℕ
-mend_said size medium image = text_by_volume medium (writable_opening size image) (findings_in size image) (written_in size image)
+mend_said size medium image = text_by_volume medium (repairing size image) (found_at size image) (written_in size image)
 
 abbrev pub said_sized : Option ℕ → List ℕ → List ℕ → List ℕ
 said_sized None medium image = text_of medium (outcome.Refused Anchor)

@@ -1,18 +1,11 @@
 -- What the steps of a repair leave of its files.
-use Rattle.std.specs.Prelude.{◌≡◌, ◌⊎◌, ℕ, true, List, ◌++◌, length, Option, Some, Result, Ok, Err}
+use Rattle.std.specs.Prelude.{◌≡◌, ◌⊎◌, ℕ, true, List, ◌++◌, length, Option, Some}
 use Rattle.udf_outside.specs.declared.bench.Role.TheVariants.{Image, Side}
 use Rattle.udf_outside.specs.Stops.{Held, Pair, bytes_of, IsSynced, LeavesOnly}
 use Rattle.udf_volume_model.specs.Opened.{plan_of}
-use Rattle.udf_repair_model.specs.Accepted.{mend, is_unbroken}
-use Rattle.udf_layer.specs.declared.missing.LayerStop.{LayerStop}
-use Rattle.udf_layer.specs.declared.missing.LayerStop.TheVariants as stops
-use Rattle.udf_model.specs.Image.{block_of}
-use Rattle.udf_volume.specs.Taken.{Opens}
-use Rattle.udf_volume.specs.Writable.{writable_opening}
+use Rattle.udf_mended_image.specs.Accepted.{mend, is_unbroken}
 use Rattle.udf_redo.specs.Log.{head_in, sealed_in}
 use Rattle.udf_redo.specs.Settled.{settled, CanGoOn, IsFree, SameElsewhere}
-use Rattle.udf_top.specs.declared.udffsck.mend.Inspected.{Inspected}
-use Rattle.udf_rules.specs.Findings.{findings_in}
 use Rattle.udf_top.specs.declared.outcome.Outcome.{Outcome}
 use Rattle.udf_top.specs.Repairing.{mend_of, logged, log_size}
 use Rattle.udf_top.specs.Endings.{HasEnded, HasRepaired, HasOpenedNoGate}
@@ -40,13 +33,6 @@ pub record IsMended (after : List ℕ) (end : Held) : Type 0 where
   pub holds : bytes_of Image end ≡ after
   pub side : IsFree (bytes_of Side end)
   pub synced : IsSynced end
-
--- what an inspection of an image answers, unless a fault or want of memory came
-abbrev pub Inspects : ℕ → List ℕ → Result Inspected LayerStop → Type 0
-Inspects size image (Ok found) = Opens (writable_opening size image) (block_of size image) (Ok found.opened) × (found.findings ≡ findings_in size image)
-Inspects size image (Err (stops.Missing missing)) = writable_opening size image ≡ Err missing
-Inspects size image (Err stops.Fault) = Unit {0}
-Inspects size image (Err stops.Memory) = Unit {0}
 
 -- The second half of a repair, over an image that is settled, after a replay of so many blocks: how it ends, what a stop leaves
 -- of it, and when nothing was written.

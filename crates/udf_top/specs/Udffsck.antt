@@ -1,5 +1,5 @@
 -- What `udffsck` answers and prints.
-use Rattle.std.specs.Prelude.{◌≡◌, ℕ, Bool, false, ◌&&◌, if◌then◌else◌, Option, Some, None, List, [], ◌∷◌, ◌++◌, take, Result, Ok, Err}
+use Rattle.std.specs.Prelude.{◌≡◌, ℕ, if◌then◌else◌, Option, Some, None, List, [], ◌∷◌, ◌++◌, take, Result, Ok, Err}
 use Rattle.std.specs.Str.{bytes_eq}
 use Rattle.udf_outside.specs.Stops.{Pair}
 use Rattle.udf_volume_model.specs.Size.{size_of}
@@ -9,7 +9,6 @@ use Rattle.udf_layer.specs.declared.missing.Missing.TheVariants.{Anchor}
 use Rattle.udf_layer.specs.declared.missing.LayerStop.{LayerStop}
 use Rattle.udf_layer.specs.declared.missing.LayerStop.TheVariants as stops
 use Rattle.udf_volume.specs.declared.volume.Volume.{Volume}
-use Rattle.udf_volume.specs.Taken.{opening}
 use Rattle.udf_rules.specs.declared.finding.Finding.{Finding}
 use Rattle.udf_top.specs.declared.outcome.Outcome.{Outcome}
 use Rattle.udf_top.specs.declared.outcome.Outcome.TheVariants as outcome
@@ -17,8 +16,7 @@ use Rattle.udf_words.specs.declared.cause.Cause.{Cause}
 use Rattle.udf_words.specs.Words.{Command, command_in}
 use Rattle.udf_file_rules.specs.Checked.{checked}
 use Rattle.udf_files.specs.Refusal.{files_refusal}
-use Rattle.udf_repair_model.specs.Accepted.{is_unbroken}
-use Rattle.udf_rules_model.specs.Findings.{further_rules_hold}
+use Rattle.udf_top.specs.Checking.{found_at, refusal_at}
 use Rattle.udf_top.specs.Texts.{text_of}
 use Rattle.udf_top.specs.Repairing.{repair_of, repair_said}
 
@@ -27,37 +25,13 @@ abbrev pub by_findings : List Finding → Outcome
 by_findings [] = outcome.Clean
 by_findings (finding ∷ rest) = outcome.Broken (finding ∷ rest)
 
--- the first refusal of an image that is checked: of the volume, else of its integrity sequence, its file set or its entries
-abbrev pub refusal_by : Result Volume Missing → List ℕ → Option Missing
-refusal_by (Err missing) image = Some missing
-refusal_by (Ok volume) image = files_refusal volume image
-
--- what breaks the rules on an opened volume
-abbrev pub found_by : Result Volume Missing → List ℕ → List Finding
-found_by (Err missing) image = []
-found_by (Ok volume) image = checked volume image
-
 abbrev pub by_refusal : Option Missing → List Finding → Outcome
 by_refusal (Some missing) findings = outcome.Refused missing
 by_refusal None findings = by_findings findings
 
-unfoldable pub refusal_at : ℕ → List ℕ → Option Missing
-refusal_at size image = refusal_by (opening size image) image
-
-unfoldable pub found_at : ℕ → List ℕ → List Finding
-found_at size image = found_by (opening size image) image
-
 -- the outcome of a check of an image, where nothing fails: the first refusal that applies, or what breaks the rules
 unfoldable pub check_at : ℕ → List ℕ → Outcome
 check_at size image = by_refusal (refusal_at size image) (found_at size image)
-
-abbrev pub rules_by : ℕ → Result Volume Missing → List ℕ → Bool
-rules_by size (Err missing) image = false
-rules_by size (Ok volume) image = is_unbroken size image && further_rules_hold volume image
-
--- a volume is opened, and every rule that is built holds on it and on its files
-unfoldable pub rules_hold_at : ℕ → List ℕ → Bool
-rules_hold_at size image = rules_by size (opening size image) image
 
 -- the same at the block size that is given, or else found; without one the image is refused
 abbrev pub check_sized : Option ℕ → List ℕ → Outcome

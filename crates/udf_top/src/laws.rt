@@ -3,29 +3,32 @@ ghost use Rattle.std.specs.Prelude.{◌≡◌, ◌≤◌, ℕ, List, true, false
 ghost use Rattle.udf_outside.specs.declared.bench.Role.TheVariants.{Image, Side};
 ghost use Rattle.udf_outside.specs.Stops.{Held, Pair, bytes_of, pair_of};
 ghost use Rattle.udf_volume_model.specs.Size.{size_of};
-ghost use Rattle.udf_repair_model.specs.Accepted.{is_accepted, is_unbroken};
-ghost use Rattle.udf_repair_model.specs.Sized.{is_accepted_as, is_unbroken_as};
+ghost use Rattle.udf_model.specs.Bytes.{IsBytes};
+ghost use Rattle.udf_model.specs.Size.{is_size};
+ghost use Rattle.udf_mended_image.specs.Accepted.{is_accepted, is_unbroken};
+ghost use Rattle.udf_mended_image.specs.Sized.{is_accepted_as, is_unbroken_as};
 ghost use Rattle.udf_redo.specs.Settled.{settled, IsOpenLog};
 ghost use Rattle.udf_top.specs.Repairing.{replaying, repair_of, target, written_in};
 ghost use Rattle.udf_top.specs.Headline.{IsDone};
 ghost use Rattle.udf_top.specs.Chains.{AreLeft, last_of};
-ghost use Rattle.udf_top.specs.Udffsck.{check_of, refusal_at, rules_hold_at};
+ghost use Rattle.udf_top.specs.Checking.{refusal_at};
+ghost use Rattle.udf_top.specs.Udffsck.{check_of};
 
 use crate::Outcome;
 
-/// A check is clean exactly where the image is not refused and breaks no rule, of its volume or of its files, and a repair exactly where no log is open, the
-/// image that the files stand for is accepted, and it breaks no rule. An accepted image that breaks a rule has a block to
-/// be repaired, and one that breaks none has no such block.
+/// A check is clean exactly where the image is not refused and breaks no rule, of its volume or of its files, and a repair exactly
+/// where no log is open, the image that the files stand for is accepted, and it breaks no rule. An accepted image of bytes that
+/// breaks a rule has a block to be repaired, and one that breaks none has no such block.
 pub fn clean_law()
     ensures check { (given : Option ℕ) (image : List ℕ) → check_of given image ≡ Outcome.Clean
-        → (size : ℕ) × ((size_of given image ≡ Some size) × ((refusal_at size image ≡ None) × (rules_hold_at size image ≡ true))) }
+        → (size : ℕ) × ((size_of given image ≡ Some size) × ((refusal_at size image ≡ None) × (is_unbroken size image ≡ true))) }
     ensures checked { (given : Option ℕ) (size : ℕ) (image : List ℕ) → size_of given image ≡ Some size → refusal_at size image ≡ None
-        → rules_hold_at size image ≡ true → check_of given image ≡ Outcome.Clean }
+        → is_unbroken size image ≡ true → check_of given image ≡ Outcome.Clean }
     ensures repair { (given : Option ℕ) (pair : Pair) → repair_of given pair ≡ Outcome.Clean
         → (replaying pair ≡ Ok 0) × ((is_accepted_as given (settled pair) ≡ true) × (is_unbroken_as given (settled pair) ≡ true)) }
     ensures repaired { (given : Option ℕ) (pair : Pair) → replaying pair ≡ Ok 0 → is_accepted_as given (settled pair) ≡ true
         → is_unbroken_as given (settled pair) ≡ true → repair_of given pair ≡ Outcome.Clean }
-    ensures some { (size : ℕ) (image : List ℕ) → 512 ≤ size → is_accepted size image ≡ true → is_unbroken size image ≡ false
+    ensures some { (size : ℕ) (image : List ℕ) → is_size size ≡ true → IsBytes image → is_accepted size image ≡ true → is_unbroken size image ≡ false
         → 1 ≤ written_in size image }
     ensures none { (size : ℕ) (image : List ℕ) → is_unbroken size image ≡ true → written_in size image ≡ 0 }
 {}

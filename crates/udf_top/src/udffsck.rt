@@ -24,6 +24,7 @@ use udf_outside::{Bench, Sink};
 use udf_words::{WordsStop, Work, command_of, side_name};
 
 pub(crate) mod check;
+pub(crate) mod inspect;
 pub(crate) mod mend;
 pub(crate) mod repair;
 pub(crate) mod settle;

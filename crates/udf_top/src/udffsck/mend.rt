@@ -1,16 +1,12 @@
 //! The second half of a repair: what breaks the rules is found and told, and the difference is written through the log.
-ghost use Rattle.std.specs.Prelude.{◌≡◌, ◌≤◌, ◌*◌, ◌/◌, ℕ, List, [], length, Some, IfOk, OnOk, IsErrOf, Ok, true};
-ghost use Rattle.udf_outside.specs.Files.{IsAttached, IsWritable};
+ghost use Rattle.std.specs.Prelude.{◌≡◌, ◌≤◌, ◌*◌, ◌/◌, ℕ, List, [], length, Some, OnOk, IsErrOf, true};
+ghost use Rattle.udf_outside.specs.Files.{IsWritable};
 ghost use Rattle.udf_outside.specs.Stops.{bytes_of, IsSynced, LeavesOnly};
 ghost use Rattle.udf_outside.specs.Causes.{Rose};
-ghost use Rattle.udf_outside.specs.Reads.{OnlyReads};
-ghost use Rattle.udf_outside.specs.Sectors.{disk_of};
 ghost use Rattle.udf_outside.specs.declared.bench.Role.TheVariants.{Image, Side};
 ghost use Rattle.udf_volume_model.specs.Opened.{plan_of};
 ghost use Rattle.udf_volume_model.specs.Plans.{IsRewrite};
 ghost use Rattle.udf_volume.specs.Opened.{IsBounded};
-ghost use Rattle.udf_volume.specs.Taken.{IsLawful, Opens};
-ghost use Rattle.udf_volume.specs.Writable.{writable_opening};
 ghost use Rattle.udf_blocks.specs.PlanFor.{sealed_stated, IsPlanFor};
 ghost use Rattle.udf_model.specs.Size.{is_size};
 ghost use Rattle.udf_redo.specs.Sealing.{sealed_area};
@@ -18,48 +14,22 @@ ghost use Rattle.udf_redo.specs.Settled.{IsFree};
 ghost use Rattle.udf_redo.specs.Faults.{HasFault, OnlyFaultsOrMemory};
 ghost use Rattle.udf_redo.specs.declared.stop.RedoStop.TheVariants.{Memory};
 ghost use Rattle.udf_words.specs.declared.cause.Cause.{Cause};
-ghost use Rattle.udf_rules.specs.Findings.{findings_in};
 ghost use Rattle.udf_top.specs.Texts.{text_of};
 ghost use Rattle.udf_top.specs.Repairing.{mend_said, repaired_as};
 ghost use Rattle.udf_top.specs.Endings.{HasOpenedNoGate, HasEnded};
-ghost use Rattle.udf_top.specs.Steps.{IsMending, IsMended, Inspects, Mends, Says};
+ghost use Rattle.udf_top.specs.Inspecting.{IsInspected, IsInspectedAt};
+ghost use Rattle.udf_top.specs.Steps.{IsMending, IsMended, Mends, Says};
 ghost use Rattle.udf_top.specs.Attaching.{KeepsAsked};
 
+use crate::Outcome;
 use crate::say::{say, say_mend};
-use crate::{Findings, Outcome};
+use crate::udffsck::inspect::{Inspected, inspect};
 use std::alloc::Global;
 use udf_outside::{Bench, Sink};
-use udf_plan::{Plan, plan_volume};
+use udf_plan::Plan;
 use udf_redo::{RedoStop, SealedRun, apply, close_gate, open_gate, write_log};
-use udf_rules::check_volume;
-use udf_volume::{LayerStop, Opened, Volume, WorkStop, open_writable};
-
-/// A volume that a repair may write, with its layout, and what breaks the rules on it.
-#[derive(Drop)]
-struct Inspected {
-    opened: Opened,
-    findings: Findings,
-}
-
-// Reads what a repair needs. `length` is the image's in bytes.
-#[tactic(auto, using(udf_volume::proofs::Openings::open_over, crate::proofs::Mending::opened_of))]
-fn inspect<B: Bench>(
-    alloc: Global,
-    bench: &mut B,
-    size: u32,
-    length: u64,
-) -> Result<Inspected, LayerStop>
-    requires attached { IsAttached Image (B.files bench.old) }
-    requires length { length ≡ (B.files bench.old).image.size }
-    requires large { 512 ≤ size }
-    ensures answers { B.tells → Inspects size (bytes_of Image (B.held bench.old)) result }
-    ensures lawful { IfOk result (λ found. IsLawful size (length / size) found.opened) }
-    ensures reads { OnlyReads B.files B.held B.faults bench.old bench.new LayerStop.Fault result }
-{
-    let opened = open_writable(alloc, bench, size, length)?;
-    let findings = check_volume(alloc, bench, &opened)?;
-    Ok(Inspected { opened, findings })
-}
+use udf_repair_plan::plan_repair;
+use udf_volume::{LayerStop, Volume, WorkStop};
 
 // The blocks of the kept descriptors, which no mend writes.
 fn kept_descriptors(volume: &Volume) -> SealedRun
@@ -160,23 +130,21 @@ fn mend_broken<B: Bench, O: Sink>(
     alloc: Global,
     medium: &str,
     replayed: u32,
-    found: &Inspected,
+    found: Inspected,
     bench: &mut B,
     out: &mut O,
 ) -> Outcome
     requires image { IsWritable Image (B.files bench.old) }
     requires side { IsWritable Side (B.files bench.old) }
-    requires size { is_size found.now.opened.volume.size ≡ true }
-    requires lawful { IsLawful found.now.opened.volume.size ((B.files bench.old).image.size / found.now.opened.volume.size) found.now.opened }
-    requires opened { B.tells → Opens (writable_opening found.now.opened.volume.size (bytes_of Image (B.held bench.old)))
-        (disk_of found.now.opened.volume.size (B.held bench.old)) (Ok found.now.opened) }
-    requires findings { B.tells → found.now.findings ≡ findings_in found.now.opened.volume.size (bytes_of Image (B.held bench.old)) }
-    requires broken { 1 ≤ length found.now.findings }
+    requires size { is_size found.files.volume.size ≡ true }
+    requires at { IsInspectedAt found.files.volume.size (B.files bench.old) found }
+    requires inspected { B.tells → IsInspected found.files.volume.size (bytes_of Image (B.held bench.old)) found }
+    requires broken { 1 ≤ length found.findings }
     requires free { B.tells → IsFree (bytes_of Side (B.held bench.old)) }
     requires synced { B.tells → IsSynced (B.held bench.old) }
-    ensures mends { B.tells → Mends found.now.opened.volume.size replayed (B.held bench.old) (B.held bench.new) result }
+    ensures mends { B.tells → Mends found.files.volume.size replayed (B.held bench.old) (B.held bench.new) result }
     ensures said { B.tells → (before : List ℕ) → O.told out.old ≡ Some before
-        → Says (O.told out.new) before (mend_said found.now.opened.volume.size medium.now (bytes_of Image (B.held bench.old))) result }
+        → Says (O.told out.new) before (mend_said found.files.volume.size medium.now (bytes_of Image (B.held bench.old))) result }
     ensures device { result ≡ Outcome.DeviceFault → Rose (B.faults bench.old) (B.faults bench.new) }
     ensures out { result ≡ Outcome.OutFault → Rose (O.faults out.old) (O.faults out.new) }
     ensures usage { (cause : Cause) → result ≡ Outcome.Usage cause → ⊥ }
@@ -185,14 +153,20 @@ fn mend_broken<B: Bench, O: Sink>(
     ensures later { B.faults bench.old ≤ B.faults bench.new }
     ensures later_out { O.faults out.old ≤ O.faults out.new }
 {
-    let plan = match plan_volume(alloc, bench, &found.opened) {
+    bench.known();
+    let Inspected {
+        files,
+        findings,
+        draft,
+    } = found;
+    let plan = match plan_repair(alloc, bench, &files, draft) {
         Ok(plan) => plan,
         Err(stop) => return by_work(stop),
     };
-    if let Err(stop) = say_mend(alloc, medium, &found.findings, plan.len(), out) {
+    if let Err(stop) = say_mend(alloc, medium, &findings, plan.len(), out) {
         return stop.outcome();
     }
-    write(alloc, replayed, &plan, &found.opened.volume, bench)
+    write(alloc, replayed, &plan, &files.volume, bench)
 }
 
 // Tells that no rule is broken.
@@ -245,7 +219,7 @@ pub(crate) fn mend<B: Bench, O: Sink>(
             if found.findings.is_empty() {
                 end_unbroken(alloc, medium, replayed, out)
             } else {
-                mend_broken(alloc, medium, replayed, &found, bench, out)
+                mend_broken(alloc, medium, replayed, found, bench, out)
             }
         }
         Err(LayerStop::Missing(missing)) => say(alloc, medium, Outcome::Refused(missing), out),

@@ -93,6 +93,7 @@ pub(crate) fn repair<B: Bench, O: Sink>(
     if let Err(stop) = say_replayed(alloc, medium, replayed, out) {
         return stop.outcome();
     }
+    bench.known();
     match size_for(alloc, bench, lengths.image, given) {
         Ok(size) => mend(alloc, size, medium, lengths.image, replayed, bench, out),
         Err(stop) => end_unsized(alloc, medium, stop, out),

@@ -1,10 +1,7 @@
-use Rattle.std.proofs.Common.{◌≡◌, List, Err, Ok, sym, ap, ◌∙◌, subst, rules}
+use Rattle.std.proofs.Common.{◌≡◌, Err, sym, subst, rules}
 use Rattle.udf_model.proofs.Sizes.{large}
-use Rattle.udf_outside.specs.Files.{Files}
 use Rattle.udf_outside.specs.Stops.{Held, bytes_of}
 use Rattle.udf_outside.specs.declared.bench.Role.TheVariants.{Image}
-use Rattle.udf_volume.proofs.Openings.{open_over}
-use Rattle.udf_volume.specs.Taken.{IsOpenOver}
 use Rattle.udf_top.specs.Udffsck.{ExaminesAt, ExaminesVolume}
 use Rattle.udf_top.proofs.Examining.{not_opened, of_opened}
 use Rattle.udf_top.proofs.udffsck.check.examine_at.Goals as goal

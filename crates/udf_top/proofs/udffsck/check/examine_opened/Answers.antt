@@ -1,15 +1,16 @@
-use Rattle.std.proofs.Common.{◌≡◌, ◌++◌, arith, List, Ok, Err, sym, ap, ◌∙◌, subst, rules}
+use Rattle.std.proofs.Common.{◌≡◌, ◌++◌, arith, List, Ok, Err, Result, IfErr, sym, ap, ◌∙◌, subst, rules}
 use Rattle.udf_outside.specs.Causes.{Rose}
 use Rattle.udf_outside.specs.Stops.{Held, bytes_of}
 use Rattle.udf_outside.specs.declared.bench.Role.TheVariants.{Image}
+use Rattle.udf_layer.specs.declared.missing.LayerStop.{LayerStop}
 use Rattle.udf_rules.specs.declared.finding.Finding.{Finding}
 use Rattle.udf_file_rules.specs.Checked.{files_checked, volume_checked}
 use Rattle.udf_volume.specs.Over.{IsOver}
 use Rattle.udf_volume.specs.Taken.{IsOpenOver}
 use Rattle.udf_volume.specs.declared.volume.Volume.{Volume}
 use Rattle.udf_files.specs.Files.{FindsFiles}
-use Rattle.udf_top.specs.Udffsck.{ExaminesVolume}
-use Rattle.udf_top.proofs.Examining.{not_found}
+use Rattle.udf_top.specs.Udffsck.{ExaminesVolume, RefusesCheck}
+use Rattle.udf_top.proofs.Examining.{as_stopped, fault_of, not_found, on_stopped, refuses_nothing, stopped}
 use Rattle.udf_top.proofs.udffsck.check.examine_opened.Goals as goal
 
 pub files_of-requires-clause-over : goal.files_of-requires-clause-over
@@ -37,8 +38,10 @@ returns-in_err-findings-clause-reads g c =
       files = c.check_files.ensures.reads.files ∙ c.files_of.ensures.reads.files ∙ c.check_opened.ensures.reads.files;
       held = c.check_files.ensures.reads.held ∙ c.files_of.ensures.reads.held ∙ c.check_opened.ensures.reads.held;
       later = omega (arith, first, second, third);
-      cause = λ e. let rose : Rose (g.B.Bench.faults c.files_of.new.bench) (g.B.Bench.faults c.check_files.new.bench) = search rules in omega (arith, rose, first, second);
-      calm = search rules;
+      cause = λ e. let rose : Rose (g.B.Bench.faults c.files_of.new.bench) (g.B.Bench.faults c.check_files.new.bench)
+          = c.in_err-findings.ensures.reads.cause (fault_of c.from_residual-in_err-findings.result c.in_err-findings.field-0.0 c.from_residual-in_err-findings.ensures.1 e) in
+          omega (arith, rose, first, second);
+      calm = on_stopped c.from_residual-in_err-findings.result c.in_err-findings.field-0.0 c.from_residual-in_err-findings.ensures.1 _;
     }
 
 pub returns-clause-answers : goal.returns-clause-answers
@@ -54,3 +57,16 @@ returns-clause-answers g c tells =
           ∙ ap (λ (h : Held). first ++ files_checked volume (bytes_of Image h)) held
           ∙ ap (λ (l : List Finding). l ++ files_checked volume image) (c.in_ok-of_volume.ensures.found tells),
     )
+
+pub returns-in_err-findings-clause-answers : goal.returns-in_err-findings-clause-answers
+returns-in_err-findings-clause-answers g c tells =
+    let image = bytes_of Image (g.B.Bench.held c.args.bench.now) in
+    subst (ExaminesVolume c.args.opened.volume image)
+    (sym (as_stopped c.from_residual-in_err-findings.result c.in_err-findings.field-0.0 c.from_residual-in_err-findings.ensures.1))
+    (stopped c.args.opened.volume image c.in_err-findings.field-0.0)
+
+pub returns-in_err-findings-clause-refusal : goal.returns-in_err-findings-clause-refusal
+returns-in_err-findings-clause-refusal g c =
+    subst (λ (r : Result (List Finding) LayerStop). IfErr r RefusesCheck)
+    (sym (as_stopped c.from_residual-in_err-findings.result c.in_err-findings.field-0.0 c.from_residual-in_err-findings.ensures.1))
+    (refuses_nothing c.in_err-findings.field-0.0)

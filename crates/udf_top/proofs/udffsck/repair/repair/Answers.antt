@@ -1,4 +1,5 @@
 use Rattle.std.proofs.Common.{◌≡◌, inr, ◌++◌, sym, ◌∙◌, ap, subst, List, ℕ, Option, Some, Err}
+use Rattle.udf_model.specs.Bytes.{IsBytes}
 use Rattle.udf_outside.specs.Stops.{Held, bytes_of, pair_of, LeavesOnly, IsSynced}
 use Rattle.udf_outside.specs.declared.bench.Role.TheVariants.{Image}
 use Rattle.udf_volume_model.specs.Size.{size_of}
@@ -11,7 +12,6 @@ use Rattle.udf_top.specs.Steps.{IsSettling, Mends, Says}
 use Rattle.udf_top.specs.Headline.{Repairs}
 use Rattle.udf_top.specs.Udffsck.{Sizes}
 use Rattle.udf_top.specs.declared.outcome.Outcome.TheVariants as outcome
-use Rattle.udf_model.proofs.Sizes.{large}
 use Rattle.udf_top.proofs.Safe.{HasBegun, unbegun, begun}
 use Rattle.udf_top.proofs.Ends as ends
 use Rattle.udf_top.proofs.udffsck.repair.repair.Goals as goal
@@ -88,9 +88,10 @@ returns-in-Ok-size_for-clause-outcome g c tells =
     let sized : size_of c.args.given (settled (pair_of old)) ≡ Some c.in-Ok-size_for.size = ap (size_of c.args.given) (sym image_is) ∙ c.in-Ok-size_for.ensures.answers tells in
     let moments : CanGoOn (pair_of old) → LeavesOnly old middle (IsSettling (pair_of old)) =
     subst (λ (h : Held). CanGoOn (pair_of h) → LeavesOnly h middle (IsSettling (pair_of h))) attached (c.settle.ensures.moments tells) in
+    let bytes : IsBytes (settled (pair_of old)) = subst IsBytes image_is (c.known.ensures tells Image) in
     let mends = subst (λ (h : Held). Mends c.in-Ok-size_for.size c.in-Ok-settle.replayed h (g.B.Bench.held c.mend.new.bench) c.mend.result) c.size_for.ensures.reads.held (c.mend.ensures.mends tells) in
     ends.outcome_mended c.args.given c.in-Ok-size_for.size c.in-Ok-settle.replayed old middle (g.B.Bench.held c.mend.new.bench) c.mend.result sized
-    (large c.in-Ok-size_for.size c.in-Ok-size_for.ensures.size) has answer moments
+    c.in-Ok-size_for.ensures.size bytes has answer moments
     image_is (c.in-Ok-settle.ensures.free tells) (c.in-Ok-settle.ensures.synced tells) mends
 
 pub returns-in-Ok-size_for-clause-said : goal.returns-in-Ok-size_for-clause-said
@@ -123,9 +124,10 @@ returns-in-Ok-size_for-clause-repairs g c tells =
     let sized : size_of c.args.given (settled (pair_of old)) ≡ Some c.in-Ok-size_for.size = ap (size_of c.args.given) (sym image_is) ∙ c.in-Ok-size_for.ensures.answers tells in
     let moments : CanGoOn (pair_of old) → LeavesOnly old middle (IsSettling (pair_of old)) =
     subst (λ (h : Held). CanGoOn (pair_of h) → LeavesOnly h middle (IsSettling (pair_of h))) attached (c.settle.ensures.moments tells) in
+    let bytes : IsBytes (settled (pair_of old)) = subst IsBytes image_is (c.known.ensures tells Image) in
     let mends = subst (λ (h : Held). Mends c.in-Ok-size_for.size c.in-Ok-settle.replayed h (g.B.Bench.held c.mend.new.bench) c.mend.result) c.size_for.ensures.reads.held (c.mend.ensures.mends tells) in
     ends.repairs_mended c.args.given c.in-Ok-size_for.size c.in-Ok-settle.replayed old middle (g.B.Bench.held c.mend.new.bench) c.mend.result sized
-    (large c.in-Ok-size_for.size c.in-Ok-size_for.ensures.size) has answer moments
+    c.in-Ok-size_for.ensures.size bytes has answer moments
     image_is (c.in-Ok-settle.ensures.free tells) (c.in-Ok-settle.ensures.synced tells) mends
 
 pub returns-in-Err-size_for-clause-outcome : goal.returns-in-Err-size_for-clause-outcome
