@@ -277,6 +277,13 @@ holds "the log begins with $begins" [ "$(od -An -v -tx1 -N 25 a.img.redo | tr -d
 fresh; zero 256 1; zero 96 16; mended 'first anchor and main sequence zero, repaired' 'V2 -:256 1 2
 V3 -:96 0 5' 1007 96 97 98 99 100 101 256
 
+# What breaks the rules on recognition, files and space is mended through the same log.
+fresh; zero 64 12; mended 'recognition sequence zero, repaired' 'V1 -:64 0 3' 96 64 68 72
+fresh; poke 259 48 3; retag 259 0 240; poke 257 36 239; poke 112 28 0; retag 112 0 118
+mended 'a link count, a bit and an open volume, repaired' 'V10 0:2 3 1
+V12 0:0 1 747
+V13 -:112 0 16' 96 112 257 259
+
 # Data in the partition and a part block behind the last one stay.
 fresh; seq 1 20000 | dd of=a.img bs=512 seek=400 count=200 conv=notrunc 2>/dev/null
 printf 'a part block' >>a.img; cp a.img data.img; whole=$work/data.img
