@@ -12,5 +12,4 @@ pub mod Appending
 pub mod RunBytes
 pub mod Bodied
 pub mod InBlock
-pub mod CutBlocks
 pub mod TestParts

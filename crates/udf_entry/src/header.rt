@@ -27,9 +27,9 @@ const KINDS: u16 = 8;
 const KNOWN_KINDS: u8 = 4;
 
 // L_AD of an allocation extent, and where its descriptors begin.
-pub(crate) const EXTENT_LENGTH_AT: usize = 20;
+const EXTENT_LENGTH_AT: usize = 20;
 
-pub(crate) const EXTENT_BYTES: usize = 24;
+const EXTENT_BYTES: usize = 24;
 
 // The length of an entry's header, by its identifier.
 fn header_of(id: u16) -> Option<usize>

@@ -7,7 +7,6 @@
 mod body;
 mod chain;
 mod content;
-mod cuts;
 mod entry;
 mod extent;
 mod header;
@@ -17,18 +16,15 @@ mod reading;
 mod rules;
 mod run;
 mod seen;
-mod settings;
 mod stop;
 mod values;
 
 pub use content::content_of;
-pub use cuts::{cut, cut_extent};
 pub use entry::{Entry, read_entry};
 pub use header::{base_in, header_at, kind_in};
 pub use icb_flags::IcbFlags;
 pub use list::{List, list_of};
 pub use run::Run;
-pub use settings::{clear_stream, set_id, set_links};
 pub use stop::ListStop;
 pub use values::{Values, retag_entry};
 

@@ -1,18 +1,14 @@
 // The worked cases of entries and their lists.
-ghost use Rattle.std.specs.Prelude.{◌≡◌, ◌^◌, ◌<◌, ◌≤◌, true, length, IfOk, IfSome};
+ghost use Rattle.std.specs.Prelude.{◌^◌, ◌<◌, ◌≤◌, IfOk};
 ghost use Rattle.udf_outside.specs.Files.{IsAttached};
 ghost use Rattle.udf_outside.specs.Memory.{files_in};
 ghost use Rattle.udf_outside.specs.declared.bench.Role.TheVariants.{Image};
-ghost use Rattle.udf_file_model.specs.Entry.{entry_of};
-ghost use Rattle.udf_file_model.specs.Descriptors.{descriptor_count};
 
-use crate::{
-    IcbFlags, List, ListStop, clear_stream, content_of, cut, list_of, read_entry, set_id, set_links,
-};
+use crate::{IcbFlags, List, ListStop, content_of, list_of, read_entry};
 use bitflags::Flags;
 use std::alloc::Global;
 use std::test::Fail;
-use udf_field::{Addr, Fields, FieldsMut, Short, retag};
+use udf_field::{Addr, FieldsMut, Short, retag};
 use udf_layer::{One, Physical};
 use udf_outside::{Access, Bench, MemBench, Role};
 
@@ -114,26 +110,6 @@ fn chain_read(alloc: Global) -> Result<(u64, u32, u32, bool, u64, usize), ListSt
     ))
 }
 
-// Cuts a block to its first descriptor, where it holds one.
-#[tactic(auto, unfolding(udf_model::specs::Size::is_size))]
-fn cut_to_one(block: &mut [u8; 512], at: u32, bytes: u64) {
-    if has_short_descriptor(block, at) {
-        cut(block, at, 1, 512, bytes);
-    }
-}
-
-// Whether a block holds a readable entry with a short descriptor.
-#[tactic(auto, unfolding(udf_file_model::specs::Descriptors::descriptor_count))]
-fn has_short_descriptor(block: &[u8], at: u32) -> bool
-    ensures counted { result ≡ true → IfSome (entry_of at block.now) (λ e. 1 ≤ descriptor_count e.kind (length e.body)) }
-    ensures listed { result ≡ true → IfSome (entry_of at block.now) (λ e. e.kind ≡ 3 → ⊥) }
-{
-    match read_entry(block, at) {
-        None => false,
-        Some(entry) => entry.kind() == 0 && entry.body().len() >= 8,
-    }
-}
-
 #[test]
 fn body_fits_its_block(rt: HostRuntime) -> Result<(), Fail> {
     assert!(rt; read_entry(&entry(3, 0, short(0, 6), 0, 296), 3).is_some());
@@ -144,39 +120,16 @@ fn body_fits_its_block(rt: HostRuntime) -> Result<(), Fail> {
 }
 
 #[test]
-fn entry_cut_to_one_descriptor(rt: HostRuntime) -> Result<(), Fail> {
-    let mut block = entry(4, 1024, short(0, 3), 0, 16);
-    cut_to_one(&mut block, 4, 512);
-    let fields = Fields::over(&block);
-    assert_eq!(rt; fields.u32_at(212), 8);
-    assert_eq!(rt; fields.u64_at(56), 512);
-    assert_eq!(rt; fields.u64_at(64), 512);
-    assert_eq!(rt; fields.u16_at(10), 208);
-    Ok(())
-}
-
-#[test]
 fn chain_that_comes_back_to_itself(rt: HostRuntime) -> Result<(), Fail> {
     let read = chain_read(rt.alloc()).ok().ok_or("not read")?;
     assert!(rt; read == (2, 6, 1, false, 1024, 1024));
     Ok(())
 }
 
-// Sets link count and identifier, and takes the stream directory.
-#[tactic(auto, unfolding(udf_model::specs::Size::is_size))]
-fn set_values(block: &mut [u8; 512], at: u32, links: u16, id: u64) {
-    set_links(block, at, links);
-    set_id(block, at, id);
-    clear_stream(block, at);
-}
-
 #[test]
-fn values_that_are_set(rt: HostRuntime) -> Result<(), Fail> {
-    let mut block = entry(3, 1536, short(3, 4), 0, 16);
-    set_values(&mut block, 3, 7, 16);
+fn values_that_are_stated(rt: HostRuntime) -> Result<(), Fail> {
+    let block = entry(3, 1536, short(3, 4), 0, 16);
     let read = read_entry(&block, 3).ok_or("not readable")?;
-    assert_eq!(rt; read.links(), 7);
-    assert_eq!(rt; read.id(), 16);
     assert_eq!(rt; read.info_length(), 1536);
     assert!(rt; read.flags().contains(IcbFlags::SYSTEM));
     Ok(())

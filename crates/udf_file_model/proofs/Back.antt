@@ -14,7 +14,7 @@ use Rattle.udf_file_model.specs.Entry.{header_of_id, header_by, kind_at, attribu
 use Rattle.udf_file_model.proofs.Numbers.{number_retagged}
 use Rattle.udf_file_model.proofs.CutLaws.{both}
 use Rattle.udf_file_model.specs.Wanted.{Field, field, with_fields, Wanted, cleared, fields_of, base_of, body_with, entry_with, mended, Fits, nowhere, stream_left}
-use Rattle.udf_file_model.proofs.Fields.{AllBefore, AllFit, read_in, fields_length, fields_are_bytes, fields_read}
+use Rattle.udf_file_model.proofs.Fields.{AllFit, read_in, fields_length, fields_are_bytes, fields_read}
 
 -- what a readable entry is known by
 pub record Opened (header : ℕ) (block : List ℕ) : Type 0 where
@@ -73,7 +73,6 @@ pub record Table (header : ℕ) (w : Wanted) (fs : List Field) : Type 0 where
   pub id : (x : ℕ) → read_in 8 (header - 16) fs x ≡ Some w.id
   pub icb : IsKept (attributes_place header) fs
   pub stream : header ≡ 216 → (w.clear ≡ true × IsNowhere 152 fs) ⊎ (w.clear ≡ false × IsKept 152 fs)
-  pub before : AllBefore header fs
   pub fit : (size : ℕ) → 216 ≤ size → length w.body < 256 ^ 4 → w.information < 256 ^ 8 → w.object_size < 256 ^ 8 → w.links < 256 ^ 2 → w.id < 256 ^ 8 → AllFit size fs
 
 small_table : (w : Wanted) → Table 176 w (fields_of 176 w)
@@ -90,7 +89,6 @@ small_table w = record {
   id = λ x. refl;
   icb = record { stored = λ x. refl; block = λ x. refl; part = λ x. refl };
   stream = λ e. absurd (omega (arith, e));
-  before = (omega arith, (omega arith, (omega arith, (omega arith, tt))));
   fit = λ size r b i o l d. (omega (arith, r), b, (omega (arith, r), l, (omega (arith, r), i, (omega (arith, r), d, tt))));
 }
 
@@ -112,7 +110,6 @@ large_table w = choose w.clear refl
       id = λ x. refl;
       icb = record { stored = λ x. refl; block = λ x. refl; part = λ x. refl };
       stream = λ z. inl (e, record { stored = λ x. refl; block = λ x. refl; part = λ x. refl });
-      before = (omega arith, (omega arith, (omega arith, (omega arith, (omega arith, (omega arith, (omega arith, (omega arith, (omega arith, tt)))))))));
       fit = λ size r b i o l d. (
         omega (arith, r),
         b,
@@ -147,11 +144,10 @@ large_table w = choose w.clear refl
       id = λ x. refl;
       icb = record { stored = λ x. refl; block = λ x. refl; part = λ x. refl };
       stream = λ z. inr (e, record { stored = λ x. refl; block = λ x. refl; part = λ x. refl });
-      before = (omega arith, (omega arith, (omega arith, (omega arith, (omega arith, tt)))));
       fit = λ size r b i o l d. (omega (arith, r), b, (omega (arith, r), l, (omega (arith, r), i, (omega (arith, r), d, (omega (arith, r), o, tt)))));
     }
 
-pub table : (header : ℕ) (w : Wanted) → (header ≡ 176) ⊎ (header ≡ 216) → Table header w (fields_of header w)
+table : (header : ℕ) (w : Wanted) → (header ≡ 176) ⊎ (header ≡ 216) → Table header w (fields_of header w)
 table header w (inl e) = let P : ℕ → Type 0 = λ h. Table h w (fields_of h w) in subst P (sym e) (small_table w)
 table header w (inr e) = let P : ℕ → Type 0 = λ h. Table h w (fields_of h w) in subst P (sym e) (large_table w)
 

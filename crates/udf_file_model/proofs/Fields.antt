@@ -1,9 +1,8 @@
 -- Numbers that are set one after the other.
-use Rattle.std.proofs.Common.{◌≡◌, ℕ, Bool, true, false, cond, ◌+◌, ◌^◌, ◌<◌, ◌≤◌, ◌==◌, ◌&&◌, ◌||◌, nat_le, ◌⊎◌, inl, inr, Option, Some, None, List, [], ◌∷◌, length, drop, arith, sym, ◌∙◌, ap, refl}
+use Rattle.std.proofs.Common.{◌≡◌, ℕ, Bool, true, false, cond, ◌+◌, ◌^◌, ◌<◌, ◌≤◌, ◌==◌, ◌&&◌, ◌||◌, nat_le, ◌⊎◌, inl, inr, Option, Some, None, List, [], ◌∷◌, length, arith, sym, ◌∙◌, ap, refl}
 use Rattle.std.proofs.lemmas.Bool.Decides.{nat_tests}
 use Rattle.udf_model.specs.Bytes.{IsBytes, number_at, with_number}
 use Rattle.udf_model.proofs.Written.{number_length, number_back, number_stays, number_is_bytes}
-use Rattle.udf_file_model.proofs.Written.{drop_behind}
 use Rattle.udf_file_model.specs.Wanted.{Field, with_fields}
 
 -- each field lies in the block, and its number fits it
@@ -87,21 +86,9 @@ abbrev pub AllBefore : ℕ → List Field → Type 0
 AllBefore end [] = Unit {0}
 AllBefore end (f ∷ fs) = (f.at + f.width ≤ end) × AllBefore end fs
 
-pub before_all : (fs : List Field) (m n : ℕ) → m ≤ n → AllBefore m fs → AllBefore n fs
-before_all [] m n l h = tt
-before_all (f ∷ fs) m n l h = (omega (arith, h.0), before_all fs m n l h.1)
-
 pub before_length : (fs : List Field) (block : List ℕ) → AllBefore (length block) fs → length (with_fields fs block) ≡ length block
 unfolding with_fields
 before_length [] block h = refl
 before_length (f ∷ fs) block h =
     let e = before_length fs block h.1 in
     number_length f.width f.at f.value (with_fields fs block) (omega (arith, e, h.0)) ∙ e
-
--- what is behind the fields stays
-pub fields_behind : (fs : List Field) (block : List ℕ) (end : ℕ) → end ≤ length block → AllBefore end fs → drop end (with_fields fs block) ≡ drop end block
-unfolding with_fields
-fields_behind [] block end room b = refl
-fields_behind (f ∷ fs) block end room b =
-    drop_behind f.width f.at f.value end (with_fields fs block) b.0 (omega (arith, before_length fs block (before_all fs end (length block) room b.1), b.0))
-    ∙ fields_behind fs block end room b.1

@@ -26,5 +26,4 @@ pub mod CutList
 pub mod Apart
 pub mod Fronts
 pub mod Written
-pub mod InPlace
 pub mod Whichever

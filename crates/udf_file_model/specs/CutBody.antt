@@ -49,15 +49,6 @@ cut_descriptors b ds = if b == 0 then [] else trim b ds
 unfoldable pub extent_with : ℕ → List ℕ → List ℕ → List ℕ
 extent_with location body block = retagged location (8 + length body) (written_at 24 body (with_number 4 20 (length body) block))
 
-abbrev pub extent_first_by : ℕ → ℕ → ℕ → ℕ → List ℕ → Option (List ℕ) → List ℕ
-extent_first_by location kind n last block None = block
-extent_first_by location kind n last block (Some body) = extent_with location (first_of kind n last body) block
-
--- the block of the whole allocation extent at a location with its first n descriptors of a kind, the last of them with a
--- length; a block that holds none stays
-unfoldable pub extent_first : ℕ → ℕ → ℕ → ℕ → List ℕ → List ℕ
-extent_first location kind n last block = extent_first_by location kind n last block (extent_body location block)
-
 -- the block of a whole allocation extent with these bytes of descriptors, at a location
 pub record HasExtent (location : ℕ) (block body : List ℕ) : Type 0 where
   pub bytes : IsBytes block

@@ -6,23 +6,11 @@ use Rattle.udf_file_model.specs.Entry.{Entry}
 use Rattle.udf_file_model.specs.Pieces.{IsAmong}
 use Rattle.udf_file_model.specs.Listing.{Volume, with_disk, extent_at, descriptors_in, descriptors_of, list_for}
 use Rattle.udf_file_model.specs.Cut.{cut_pieces, left_in}
-use Rattle.udf_file_model.specs.CutBody.{cut_body, first_of}
-use Rattle.udf_file_model.specs.Wanted.{Wanted, with_cut}
+use Rattle.udf_file_model.specs.CutBody.{cut_body}
 
 -- the entry at an address, cut to so many bytes
 abbrev pub cut_entry : Addr → ℕ → Entry → Entry
 cut_entry a b e = record e { information = b; body = if e.kind == 3 then take b e.body else cut_body e.kind a b e.body }
-
--- of a body with descriptors of a kind the first n, the last of them with a length; of an embedded content so many bytes
-abbrev pub first_in : ℕ → ℕ → ℕ → ℕ → List ℕ → List ℕ
-first_in kind n last bytes body = if kind == 3 then take bytes body else first_of kind n last body
-
--- an entry of a kind with its first descriptors, and so many bytes in all
-abbrev pub with_first : ℕ → ℕ → ℕ → ℕ → Wanted → Wanted
-with_first kind n last bytes w = with_cut bytes (first_in kind n last bytes w.body) w
-
-abbrev pub entry_first : ℕ → ℕ → ℕ → Entry → Entry
-entry_first n last bytes e = record e { information = bytes; body = first_in e.kind n last bytes e.body }
 
 -- what is left of the bytes of the extent at an address
 abbrev pub extent_left : ℕ → Addr → Option ℕ → Option (List ℕ) → Option (List ℕ)

@@ -64,14 +64,6 @@ own header block = record {
   body = body_of header block;
 }
 
-abbrev pub entry_wanting_by : ℕ → (Wanted → Wanted) → List ℕ → Option ℕ → List ℕ
-entry_wanting_by location change block None = block
-entry_wanting_by location change block (Some header) = entry_with location header (change (own header block)) block
-
--- the block of the readable entry at a location with other values than its own; a block that holds none stays
-unfoldable pub entry_wanting : ℕ → (Wanted → Wanted) → List ℕ → List ℕ
-entry_wanting location change block = entry_wanting_by location change block (entry_header location block)
-
 -- an ICB that names nothing
 abbrev pub nowhere : Long
 nowhere = record { kind = 0; length = 0; at = addr 0 0 }

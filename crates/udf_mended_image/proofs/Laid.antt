@@ -24,7 +24,7 @@ use Rattle.udf_volume.specs.Taken.{is_spared_stated, opening}
 use Rattle.udf_volume.specs.declared.volume.Volume.{Volume}
 use Rattle.udf_volume.proofs.Described.{Describes, anchor_is, blocks_is, layout_in_is, opened_ok, sparing_of_is}
 use Rattle.udf_volume.proofs.LaidOut.{laid_is, spared_is}
-use Rattle.udf_volume.proofs.Protected.{opened_is}
+use Rattle.udf_volume.proofs.Openable.{opened_is}
 use Rattle.udf_volume_laws.proofs.Apart.{between, tail_apart, uncovered}
 use Rattle.udf_volume_laws.proofs.After.{whole}
 use Rattle.udf_volume_laws.proofs.Beside.{anchors_off_edits, bad_parts, sequence_off, untouched}

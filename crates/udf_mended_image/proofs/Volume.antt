@@ -27,7 +27,7 @@ use Rattle.udf_volume.specs.Opened.{volume_by}
 use Rattle.udf_volume.specs.Taken.{opening}
 use Rattle.udf_volume.specs.declared.volume.Volume.{Volume}
 use Rattle.udf_volume.proofs.Described.{Describes, layout_in_is, opened_ok}
-use Rattle.udf_volume.proofs.Protected.{opened_is}
+use Rattle.udf_volume.proofs.Openable.{opened_is}
 
 -- what two volumes have in common that differ at most in their kept anchor and their kept sequence
 pub record SameFields (a b : Volume) : Type 0 where

@@ -37,24 +37,8 @@ fn add_volume<B: Bench>(
     Ok(())
 }
 
-/// What breaks the rules on anchors, on sequences and on sparing tables, on a volume that was opened of the image.
-pub fn check_volume<B: Bench>(
-    alloc: Global,
-    bench: &mut B,
-    opened: &Opened,
-) -> Result<Findings, WorkStop>
-    requires over { IsOpenOver opened.now (B.files bench.old) }
-    requires opened { B.tells → IsOpenedOf (bytes_of Image (B.held bench.old)) opened.now }
-    ensures found { B.tells → IfOk result (λ f. f ≡ findings_in opened.now.volume.size (bytes_of Image (B.held bench.old))) }
-    ensures reads { OnlyReads B.files B.held B.faults bench.old bench.new WorkStop.Fault result }
-{
-    let mut block = vec![in alloc; 0u8; opened.volume.size as usize]?;
-    let mut findings = Findings::none(alloc);
-    add_volume(alloc, bench, opened, &mut block, &mut findings)?;
-    Ok(findings)
-}
-
-/// The same, and before it what breaks the rule on the recognition sequence.
+/// What breaks the rules on the recognition sequence, on anchors, on sequences and on sparing tables, on a volume that was opened
+/// of the image.
 pub fn check_opened<B: Bench>(
     alloc: Global,
     bench: &mut B,

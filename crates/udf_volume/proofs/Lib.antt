@@ -15,7 +15,7 @@ pub mod KeptList
 pub mod Profiled
 pub mod Laying
 pub mod LaidOut
-pub mod Protected
+pub mod Openable
 pub mod Parted
 pub mod Parts
 pub mod Judged

@@ -1,9 +1,9 @@
 //! The volume of an image: its anchors, the kept descriptor sequence, what the prevailing descriptors state, and its file set.
 //! Towards the layer above: `open_layout` answers the first refusal that applies, or a `Volume` whose every field is what
-//! the descriptors state, with its `Layout`, which is computed once; `open_writable` refuses a protected volume too; `file_set`
-//! answers what the file set states and which addresses no file may take; `read_descriptors` gives the list of an extent;
-//! `anchor_verdict`, `sequence_verdict` and `table_verdict` judge a volume by the rules, for the check and for the planner. It stands
-//! on fields and tags, on the bench, on sparing tables and partitions, and on the definitions of volumes.
+//! the descriptors state, with its `Layout`, which is computed once; `file_set` answers what the file set states and which
+//! addresses no file may take; `read_descriptors` gives the list of an extent; `anchor_verdict`, `sequence_verdict` and
+//! `table_verdict` judge a volume by the rules, for the check and for the planner. It stands on fields and tags, on the bench, on
+//! sparing tables and partitions, and on the definitions of volumes.
 #![tactic(auto)]
 
 mod agreement;
@@ -40,7 +40,7 @@ pub use descriptor::{Descriptor, TERMINATING};
 pub use fixed::Fixed;
 pub use good_anchors::{AnchorVerdict, anchor_verdict};
 pub use open::open_volume;
-pub use opened::{Opened, open_layout, open_writable, opened_law};
+pub use opened::{Opened, open_layout, opened_law};
 pub use sequence::{DescriptorList, read_descriptors};
 pub use site::{FileSet, file_set};
 pub use size::{block_size, found_size};

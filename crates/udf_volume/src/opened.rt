@@ -1,16 +1,15 @@
-//! A volume with its layout, from an image: for a check, and for a repair.
-ghost use Rattle.std.specs.Prelude.{◌≡◌, ◌≤◌, ◌/◌, ℕ, List, IfOk, IfErr, is_ok, not, ◌&&◌};
+//! A volume with its layout, from an image.
+ghost use Rattle.std.specs.Prelude.{◌≡◌, ◌≤◌, ◌/◌, ℕ, List, IfOk, IfErr, is_ok};
 ghost use Rattle.udf_outside.specs.Files.{IsAttached};
 ghost use Rattle.udf_outside.specs.Stops.{bytes_of};
 ghost use Rattle.udf_outside.specs.Reads.{OnlyReads};
 ghost use Rattle.udf_outside.specs.Sectors.{disk_of};
 ghost use Rattle.udf_outside.specs.declared.bench.Role.TheVariants.{Image};
-ghost use Rattle.udf_volume_model.specs.Opened.{is_opened, is_protected_image};
+ghost use Rattle.udf_volume_model.specs.Opened.{is_opened};
 ghost use Rattle.udf_volume.specs.Refusals.{RefusesVolume};
 ghost use Rattle.udf_volume.specs.Taken.{IsLawful, Opens, opening};
-ghost use Rattle.udf_volume.specs.Writable.{writable_opening};
 
-use crate::{LayerStop, Layout, Missing, Volume, layout_of, open_volume};
+use crate::{LayerStop, Layout, Volume, layout_of, open_volume};
 use std::alloc::Global;
 use udf_outside::Bench;
 
@@ -43,37 +42,7 @@ pub fn open_layout<B: Bench>(
     Ok(Opened { volume, layout })
 }
 
-/// The volume of an image that a repair may write, with its layout, or the first refusal. `size` is the block size, at least 512,
-/// and `length` the image's length in bytes.
-#[tactic(auto, using(crate::proofs::Protected::refused_as, crate::proofs::Protected::protected, crate::proofs::Protected::unprotected))]
-pub fn open_writable<B: Bench>(
-    alloc: Global,
-    bench: &mut B,
-    size: u32,
-    length: u64,
-) -> Result<Opened, LayerStop>
-    requires attached { IsAttached Image (B.files bench.old) }
-    requires large { 512 ≤ size }
-    requires sized { length ≡ (B.files bench.old).image.size }
-    ensures answers { B.tells → Opens (writable_opening size (bytes_of Image (B.held bench.old))) (disk_of size (B.held bench.old)) result }
-    ensures lawful { IfOk result (IsLawful size (length / size)) }
-    ensures reads { OnlyReads B.files B.held B.faults bench.old bench.new LayerStop.Fault result }
-{
-    match open_layout(alloc, bench, size, length) {
-        Ok(opened) => {
-            if opened.volume.is_protected() {
-                Err(LayerStop::Missing(Missing::WriteProtected))
-            } else {
-                Ok(opened)
-            }
-        }
-        Err(stop) => Err(stop),
-    }
-}
-
-/// A volume is opened exactly where no refusal of its description applies; and one that may be written exactly where besides
-/// its descriptors do not protect it.
+/// A volume is opened exactly where no refusal of its description applies.
 pub fn opened_law()
-    ensures opened { (size : ℕ) (image : List ℕ) → is_opened size image ≡ is_ok (opening size image) }
-    ensures writable { (size : ℕ) (image : List ℕ) → (is_opened size image && not (is_protected_image size image)) ≡ is_ok (writable_opening size image) }
+    ensures { (size : ℕ) (image : List ℕ) → is_opened size image ≡ is_ok (opening size image) }
 {}

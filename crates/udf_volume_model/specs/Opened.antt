@@ -5,7 +5,7 @@ use Rattle.std.specs.Str.{bytes_eq}
 use Rattle.udf_model.specs.Image.{block_of, blocks_in}
 use Rattle.udf_volume_model.specs.Kept.{KeptSequence, kept, kept_sequence_of}
 use Rattle.udf_volume_model.specs.Areas.{Area, covers}
-use Rattle.udf_volume_model.specs.Profile.{is_profile, is_protected}
+use Rattle.udf_volume_model.specs.Profile.{is_profile}
 use Rattle.udf_volume_model.specs.Layout.{is_lawful, is_spared}
 use Rattle.udf_volume_model.specs.AllRules.{rules_hold}
 use Rattle.udf_volume_model.specs.Edits.{put_blocks}
@@ -21,14 +21,6 @@ unfoldable pub is_opened : ℕ → List ℕ → Bool
 is_opened size image =
     nat_lt (blocks_in size image) 4294967296
     && is_opened_by size (blocks_in size image) (block_of size image) (kept_sequence_of size image)
-
-abbrev pub is_protected_by : Option KeptSequence → Bool
-is_protected_by None = false
-is_protected_by (Some sequence) = is_protected sequence.list
-
--- the descriptors of the kept sequence say that the volume is not to be written
-unfoldable pub is_protected_image : ℕ → List ℕ → Bool
-is_protected_image size image = is_protected_by (kept_sequence_of size image)
 
 abbrev pub mended_by : ℕ → List ℕ → Option KeptSequence → List ℕ
 mended_by size image None = image

@@ -1,6 +1,6 @@
 -- What the kept descriptors must state in this profile, a test for each of the refusals that concern it. Offsets are those
 -- in the descriptor, from its tag's first byte.
-use Rattle.std.specs.Prelude.{ℕ, Bool, not, ◌==◌, ◌&&◌, ◌||◌, ◌-◌, ◌%◌, ◌^◌, nat_le, List, ◌++◌, take, drop, slice_index, replicate, codes}
+use Rattle.std.specs.Prelude.{ℕ, Bool, not, ◌==◌, ◌&&◌, ◌||◌, ◌-◌, ◌%◌, ◌^◌, nat_le, List, ◌++◌, take, drop, replicate, codes}
 use Rattle.std.specs.Str.{bytes_eq}
 use Rattle.udf_volume_model.specs.Sequence.{Descriptor}
 use Rattle.udf_volume_model.specs.Prevailing.{number_in}
@@ -54,14 +54,6 @@ is_profile size list =
     && (has_domain list
     && (has_revision list && (not (has_pointer list) && (has_maps list && (is_built list && has_no_tables list)))))
 
--- hard or soft write protection stands in the domain's suffix (UDF 2.1.5.3)
-unfoldable pub is_guarded_list : List Descriptor → Bool
-is_guarded_list list = not (slice_index (logical list) (242 - 16) % 4 == 0)
-
 -- 3/10.5.7: overwritable, rewritable, or not said
 unfoldable pub is_rewritable : ℕ → Bool
 is_rewritable access = (access == 0) || ((access == 3) || (access == 4))
-
--- a volume that is not to be written
-unfoldable pub is_protected : List Descriptor → Bool
-is_protected list = is_guarded_list list || not (is_rewritable (number_in 4 (partition list) 184))

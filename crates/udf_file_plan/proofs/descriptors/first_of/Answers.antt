@@ -1,5 +1,5 @@
 use Rattle.std.proofs.Common.{rules, ◌≡◌, ◌*◌, length, ◌∙◌, ap, arith, take}
-use Rattle.udf_entry.proofs.CutBlocks.{count_fits}
+use Rattle.udf_file_model.proofs.Counts.{count_fits}
 use Rattle.udf_file_plan.proofs.Bodies.{first_is, written_back}
 use Rattle.udf_file_plan.proofs.descriptors.first_of.Goals as goal
 

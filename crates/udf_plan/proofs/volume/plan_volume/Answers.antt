@@ -8,7 +8,7 @@ use Rattle.udf_volume_model.specs.Opened.{is_opened, volume_mended, plan_of}
 use Rattle.udf_volume_model.specs.Plans.{planned}
 use Rattle.udf_volume_model.specs.SparingRule.{copies_of}
 use Rattle.udf_volume.specs.Areas.{sparing_seen}
-use Rattle.udf_volume.proofs.Protected.{opened_is}
+use Rattle.udf_volume.proofs.Openable.{opened_is}
 use Rattle.udf_volume.proofs.Described.{opened_ok}
 use Rattle.udf_blocks.specs.PlanFor.{IsPlanFor}
 use Rattle.udf_wanted.specs.Wanted.{LookAlike, changed}

@@ -1,4 +1,4 @@
-use Rattle.std.proofs.Common.{ap, sym, ◌∙◌, List, ◌++◌, append_assoc}
+use Rattle.std.proofs.Common.{ap, ◌∙◌, List, ◌++◌, append_assoc}
 use Rattle.udf_outside.specs.Stops.{Held, bytes_of}
 use Rattle.udf_outside.specs.declared.bench.Role.TheVariants.{Image}
 use Rattle.udf_rules.specs.declared.finding.Finding.{Finding}
