@@ -36,17 +36,20 @@ repair-sample: $(PROGRAM)
 	$(PROGRAM) -c -B 512 $(COPY)
 	cmp $(COPY) $(SAMPLE)
 
-# Checks the sample volume and a damaged copy of it with an unproved build: rt compiles the program with checks at run time, runs it on
-# each file, and throws away what it writes. So nothing is repaired here, and nothing is kept for repair-sample.
+# The steps of repair-sample with an unproved build: rt compiles the program with checks at run time, and runs it on copies of the sample
+# volume, a check of a whole one, a check of a damaged one and a repair of such a one. It throws away what a program writes.
 try-sample:
-	@echo 'An unproved build: NOTHING IS PROVED. It takes a minute or two to compile, and is not kept.'
+	@echo 'An unproved build: NOTHING IS PROVED. It takes about a minute to compile, and is not kept.'
 	@rm -rf $(TRIED) && mkdir -p $(TRIED)
-	@cp $(SAMPLE) $(TRIED)/sample && cp $(SAMPLE) $(TRIED)/damaged && chmod u+w $(TRIED)/damaged
-	@dd if=/dev/zero of=$(TRIED)/damaged bs=512 seek=96 count=16 conv=notrunc status=none
-	@cd crates/udffsck && rt try --seconds 600 --steps 100000000000 --cases ../../$(TRIED) -- -c -B 512 case </dev/null \
-	    >../../$(TRIED).log 2>&1; grep -v '^checked' ../../$(TRIED).log
-	@grep -qx 'udffsck: case: clean' $(TRIED).log && grep -qx 'udffsck: case: 1 broken' $(TRIED).log
-	@echo 'No repair was tried, since rt try keeps no file that a program writes: make repair-sample proves the program and repairs.'
+	@for name in 1-whole 2-damaged 3-repaired; do cp $(SAMPLE) $(TRIED)/$$name && chmod u+w $(TRIED)/$$name; done
+	@for name in 2-damaged 3-repaired; do \
+	    dd if=/dev/zero of=$(TRIED)/$$name bs=512 seek=96 count=16 conv=notrunc status=none; done
+	@for name in 1-whole 2-damaged; do echo -c >$(TRIED)/$$name.args; done; echo -p >$(TRIED)/3-repaired.args
+	@cd crates/udffsck && rt try --seconds 600 --steps 1000 --cases ../../$(TRIED) -- -B 512 {} </dev/null >../../$(TRIED).log 2>&1; \
+	    grep -v '^interpreter' ../../$(TRIED).log
+	@grep -qx 'udffsck: case: clean' $(TRIED).log && grep -qx 'udffsck: case: 1 broken' $(TRIED).log \
+	    && grep -qx 'udffsck: case: repairing 6 blocks' $(TRIED).log && grep -q '^case=3-repaired run=ended status=1 ' $(TRIED).log
+	@echo 'What the repair wrote is thrown away by rt try: make repair-sample proves the program, repairs, and checks again.'
 
 # The gate: proves every crate, tries the must-fail edits, runs the tests and the programs.
 test:

@@ -1,10 +1,12 @@
 #!/usr/bin/env python3
-"""Makes the volumes whose check bench/check.sh times. Each is clean, so that a check looks for every rule to its end.
+"""Makes the volumes whose check bench/check.sh times, and those whose repair bench/repair.sh times. Each but those of `linked`, `open` and
+`spoilt` is clean, so that a check looks for every rule to its end.
 
     python3 bench/check.py CASE COUNT IMAGE      at the top of the repository
 
 `empty` is a volume of so many blocks with an empty root; `files` has so many files of one block, a hundred in a directory; `large` has
-1 TiB and so many files of 10 GB. Blocks have 2,048 bytes and the revision is 2.01. What is written at all is the volume's description:
+1 TiB and so many files of 10 GB. `linked` is `files` where the last file states a link too many, `open` the same where the integrity
+descriptor is open, and `spoilt` where every file states a link too many. Blocks have 2,048 bytes and the revision is 2.01. What is written at all is the volume's description:
 blocks of files, and of the bitmap where it tells of used blocks, are holes of a sparse image. The descriptors are those of the sample
 volume, with another block size and another partition.
 """
@@ -73,12 +75,12 @@ class Volume:
         struct.pack_into('<QII', head, 184, identifier, 0, len(body))
         self.put(START + at, tagged(bytes(head) + body, 266, at))
 
-    def put_file(self, at, length, first):
-        """A file whose blocks follow one another."""
+    def put_file(self, at, length, first, links=1):
+        """A file whose blocks follow one another, and which states so many links."""
         body = b''
         for offset in range(0, length, LONGEST):
             body += struct.pack('<II', min(LONGEST, length - offset), first + offset // SIZE)
-        self.entry(at, FILE, 1, length, SHORT, body)
+        self.entry(at, FILE, links, length, SHORT, body)
         self.files += 1
 
     def put_directory(self, at, above, below, fids):
@@ -93,7 +95,7 @@ class Volume:
         self.entry(at, DIRECTORY, links, len(content), SHORT, struct.pack('<II', len(content), first))
         self.put(START + first, content)
 
-    def close(self):
+    def close(self, closed=True):
         """Puts what stands outside the partition, the bitmap and the file set."""
         self.put_recognition()
         for first in (MAIN, RESERVE):
@@ -101,7 +103,7 @@ class Volume:
         anchor = struct.pack('<IIII480x', 16 * SIZE, MAIN, 16 * SIZE, RESERVE)
         for place in (256, self.end - 1):
             self.put(place, tagged(anchor, 2, place))
-        self.put_integrity()
+        self.put_integrity(closed)
         self.put_bitmap()
         files = self.of_sample(258)
         struct.pack_into('<IIH', files, 384, SIZE, self.root, 0)
@@ -126,9 +128,10 @@ class Volume:
                 struct.pack_into('<II', body, 416, 2 * SIZE, INTEGRITY)
             self.put(first + n, tagged(bytes(body), identifier, first + n))
 
-    def put_integrity(self):
-        """A closed integrity descriptor (3/10.10) and a terminator."""
+    def put_integrity(self, closed):
+        """An integrity descriptor (3/10.10), closed or open, and a terminator."""
         body = self.of_sample(112)
+        struct.pack_into('<I', body, 12, int(closed))
         struct.pack_into('<Q', body, 24, self.identifier)
         struct.pack_into('<II', body, 64, self.length - self.next, self.length)
         struct.pack_into('<II', body, 104, self.files, self.directories)
@@ -153,8 +156,8 @@ def empty(path, blocks):
     volume.close()
 
 
-def files(path, count):
-    """Entries of a directory follow one another, and so do the blocks of its files."""
+def files(path, count, wrong=range(0), closed=True):
+    """Entries of a directory follow one another, and so do the blocks of its files. Those with a wrong number state a link too many."""
     volume = Volume(path, 3 * count + 4096)
     root = []
     for k in range(0, count, 100):
@@ -165,9 +168,21 @@ def files(path, count):
         volume.put_directory(at, volume.root, 0, [fid(0, entries + n, named(b'file', k + n)) for n in range(many)])
         blocks = volume.take(many)
         for n in range(many):
-            volume.put_file(entries + n, SIZE, blocks + n)
+            volume.put_file(entries + n, SIZE, blocks + n, 2 if k + n in wrong else 1)
     volume.put_directory(volume.root, volume.root, len(root), root)
-    volume.close()
+    volume.close(closed)
+
+
+def linked(path, count):
+    files(path, count, range(count - 1, count))
+
+
+def unclosed(path, count):
+    files(path, count, closed=False)
+
+
+def spoilt(path, count):
+    files(path, count, range(count))
 
 
 def large(path, count):
@@ -179,7 +194,7 @@ def large(path, count):
     volume.close()
 
 
-CASES = {'empty': empty, 'files': files, 'large': large}
+CASES = {'empty': empty, 'files': files, 'large': large, 'linked': linked, 'open': unclosed, 'spoilt': spoilt}
 
 
 def main():
