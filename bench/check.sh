@@ -4,27 +4,7 @@
 # the table in docs/BENCHMARKS.md.
 #
 #   bash bench/check.sh [PROGRAM [CASE:COUNT ..]]      at the top of the repository; by default the proved build of udffsck
-set -euo pipefail
-top=$(cd "$(dirname "$0")/.." && pwd)
-program=$(realpath "${1:-$top/crates/udffsck/out/udffsck}")
-shift || true
-work=$(mktemp -d)
-trap 'rm -rf "$work"' EXIT
-
-# thrice COMMAND..: the least and the most seconds of three runs, and the most memory of any in MB
-thrice() {
-    local least='' most=0 memory=0 start took kilobytes
-    for _ in 1 2 3; do
-        start=${EPOCHREALTIME/./}
-        /usr/bin/time -q -f %M -o "$work/memory" "$@" > "$work/said" 2>&1 || true
-        took=$((${EPOCHREALTIME/./} - start))
-        kilobytes=$(cat "$work/memory")
-        if [ -z "$least" ] || [ "$took" -lt "$least" ]; then least=$took; fi
-        if [ "$took" -gt "$most" ]; then most=$took; fi
-        if [ "$kilobytes" -gt "$memory" ]; then memory=$kilobytes; fi
-    done
-    awk "BEGIN { printf \"%.3f to %.3f | %.1f\", $least / 1e6, $most / 1e6, $memory / 1e3 }"
-}
+source "$(dirname "${BASH_SOURCE[0]}")/timing.sh"
 
 # ext4 CASE COUNT: makes the file system to compare with, or fails where there is none
 ext4() {
