@@ -11,7 +11,7 @@ use Rattle.udf_tree_model.specs.Frame.{Frame, addresses_below, places}
 use Rattle.udf_tree_model.specs.Parent.{ordinary}
 use Rattle.udf_tree_model.specs.Counts.{ordinary_entries}
 use Rattle.udf_tree_model.proofs.Members.{Member, member_append, member_right, member_filter}
-use Rattle.udf_tree.proofs.Filling.{count_one}
+use Rattle.udf_tree.proofs.Counted.{count_one}
 
 -- each address is lower than all later ones
 abbrev pub Ascending : List Addr → Type 0

@@ -37,7 +37,7 @@ use Rattle.udf_tree.specs.Spot.{spot}
 use Rattle.udf_tree.proofs.Ascending.{places_ascend}
 use Rattle.udf_tree.proofs.ByIndex.{found_stands, member_at, once_at, selected_at}
 use Rattle.udf_tree.proofs.Depicting.{StandsAt}
-use Rattle.udf_tree.proofs.Filling.{count_one}
+use Rattle.udf_tree.proofs.Counted.{count_one}
 use Rattle.udf_tree.proofs.KeptParents.{Names}
 use Rattle.udf_tree.proofs.Ordinaries.{fitted_place}
 use Rattle.udf_tree.proofs.Tallying.{directory_marks, no_parent}

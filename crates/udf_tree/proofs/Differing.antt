@@ -13,7 +13,8 @@ use Rattle.udf_tree_model.specs.Counts.{id_of, is_lawful_id, ordinary_entries, k
 use Rattle.udf_tree_model.proofs.Members.{Member, member_filter, member_map, member_of, any_from}
 use Rattle.udf_tree_model.proofs.Places.{same_address}
 use Rattle.udf_tree.specs.Identifiers.{is_id, is_taken, free_among, filled}
-use Rattle.udf_tree.proofs.Filling.{count_one, enough_free}
+use Rattle.udf_tree.proofs.Counted.{count_one}
+use Rattle.udf_tree.proofs.Filling.{enough_free}
 use Rattle.udf_tree.proofs.Ascending.{Ascending, ordinary_ascend, not_lower_itself}
 use Rattle.udf_tree.proofs.Numbering.{own, free_is, filled_is, are_ordinary}
 

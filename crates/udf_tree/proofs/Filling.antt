@@ -6,13 +6,10 @@ use Rattle.std.proofs.lemmas.Bool.{cases_lt}
 use Rattle.std.proofs.lemmas.Bool.Decides.{nat_tests}
 use Rattle.std.proofs.lemmas.List.{append-nil, append_assoc, drop_more, drop_all}
 use Rattle.std.proofs.lemmas.List.Filters.{length-filter_both}
-use Rattle.std.proofs.lemmas.List.Sums.{length-filter, sum_by-cons}
+use Rattle.std.proofs.lemmas.List.Sums.{length-filter}
 use Rattle.std.proofs.lemmas.List.FromFn.{length-range_with_len}
+use Rattle.udf_tree.proofs.Counted.{count_one}
 use Rattle.udf_tree.specs.Identifiers.{is_id, is_taken, free_among, filled, Chooses}
-
--- what a count takes of the first of a list
-pub count_one : {X : Type 0} (p : X → Bool) (x : X) (xs : List X) → count_by p (x ∷ xs) ≡ cond (p x) 1 0 + count_by p xs
-count_one p x xs = sum_by-cons (λ y. cond (p y) 1 0) x xs
 
 -- how many of a run of numbers pass one test or another
 count_either : (p q : ℕ → Bool) (xs : List ℕ) → count_by (λ n. p n || q n) xs ≤ count_by p xs + count_by q xs

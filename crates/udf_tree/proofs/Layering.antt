@@ -9,7 +9,7 @@ use Rattle.udf_tree_model.specs.Among.{Member}
 use Rattle.udf_tree_model.proofs.Members.{member_append, member_left, member_right}
 use Rattle.udf_tree_model.proofs.Places.{in_flat_map}
 use Rattle.udf_tree.specs.declared.fitted.Selected.{Selected}
-use Rattle.udf_tree.proofs.Filling.{count_one}
+use Rattle.udf_tree.proofs.Counted.{count_one}
 use Rattle.udf_tree.specs.Depths.{AreDepths, HasDepth, IsReached, Way, edges, starts_from, starts_in}
 
 -- what has at most the depth k: all that ways of at most k links reach, of which the layer has that depth

@@ -8,6 +8,7 @@ pub mod Going
 pub mod Beginning
 pub mod TestParts
 pub mod Runs
+pub mod Counted
 pub mod Filling
 pub mod Settling
 pub mod Ascending
@@ -55,6 +56,7 @@ pub mod Totals
 pub mod KeptParents
 pub mod Balancing
 pub mod HeldBytes
+pub mod Elements
 pub mod Naming
 pub mod Enrolling
 pub mod Surveying

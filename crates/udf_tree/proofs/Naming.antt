@@ -128,12 +128,6 @@ numbering_next numbers i b n f g l is number was now =
     long : n.0 ≡ length (take i numbers)
     long = let e = length-take i numbers in omega (arith, l, e, number)
 
--- within a list what is read does not depend on what is read past its end
-pub read_at : {X : Type 0} (xs : List X) (i : ℕ) (d e : X) → i < length xs → get_or xs i d ≡ get_or xs i e
-read_at [] i d e l = absurd (omega (arith, l))
-read_at (x ∷ xs) zero d e l = refl
-read_at (x ∷ xs) (suc i) d e l = read_at xs i d e (omega (arith, l))
-
 -- what is wanted of each entry in order stands at the index of each
 pub wanted_in_order : (wanted : Addr → ℕ) (ks : List (Option Keeping)) (hs : List Held) → AreWanted wanted ks hs (map (λ h. wanted h.at) hs)
 wanted_in_order wanted ks hs = record { each = λ i h there numbered_it. get_or_from_slice_get (map (λ (z : Held). wanted z.at) hs) i (wanted h.at) 0 (slice_get-map (λ (z : Held). wanted z.at) hs i ∙ ap (option_map (λ (z : Held). wanted z.at)) there) }

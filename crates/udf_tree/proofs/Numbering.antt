@@ -15,7 +15,7 @@ use Rattle.udf_tree_model.specs.Parent.{ordinary}
 use Rattle.udf_tree_model.specs.Counts.{id_of, is_lawful_id, ordinary_entries, keeps_id, is_id_kept, free_ids, takes_id, place_among_takers, wanted_id}
 use Rattle.udf_tree_model.proofs.Members.{Member, member_filter}
 use Rattle.udf_tree.specs.Identifiers.{settled_after, settled_from, is_id, is_taken, free_among, filled, wanted_ids, identity}
-use Rattle.udf_tree.proofs.Filling.{count_one}
+use Rattle.udf_tree.proofs.Counted.{count_one}
 use Rattle.udf_tree.proofs.Ascending.{Ascending, ordinary_ascend, any_lower, count_lower}
 
 -- the identifier of an ordinary entry that stays, where one does

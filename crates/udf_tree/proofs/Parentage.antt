@@ -31,7 +31,7 @@ use Rattle.udf_tree_model.specs.Won.{kept_length, kept_links}
 use Rattle.udf_tree_model.proofs.Keeping.{fitted_gives}
 use Rattle.udf_tree_model.proofs.Members.{member_append, member_filter, member_of_map}
 use Rattle.udf_tree.specs.Parents.{alone, is_lawful, is_lawful_kind, only_parent}
-use Rattle.udf_tree.proofs.Filling.{count_one}
+use Rattle.udf_tree.proofs.Counted.{count_one}
 use Rattle.udf_tree.proofs.Wholeness.{FitsFields, IsParentFid, fid_is_whole, fid_of_bytes, fresh_names, named_parent}
 
 -- ---- fitted FIDs are whole, and none is a parent FID

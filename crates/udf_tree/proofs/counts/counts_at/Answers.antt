@@ -1,6 +1,6 @@
 use Rattle.std.proofs.Common.{◌≡◌, get_or}
 use Rattle.udf_tree.specs.Counts.{count_in}
-use Rattle.udf_tree.proofs.Naming.{read_at}
+use Rattle.udf_tree.proofs.Elements.{read_at}
 use Rattle.udf_tree.proofs.Sorting.{mapped_more}
 use Rattle.udf_tree.proofs.counts.counts_at.Goals as goal
 

@@ -4,7 +4,8 @@ use Rattle.std.specs.Prelude.{get_or}
 use Rattle.udf_field.specs.declared.address.Addr.{Addr}
 use Rattle.udf_file_model.specs.Address.{addr}
 use Rattle.udf_tree.specs.Order.{addr_cmp}
-use Rattle.udf_tree.proofs.Naming.{numbering_next, read_at}
+use Rattle.udf_tree.proofs.Elements.{read_at}
+use Rattle.udf_tree.proofs.Naming.{numbering_next}
 use Rattle.udf_tree.proofs.numbers.numbers_of.Goals as goal
 
 pub loop-i-preserved : goal.loop-i-preserved

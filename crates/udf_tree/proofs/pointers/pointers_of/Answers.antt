@@ -4,7 +4,7 @@ use Rattle.udf_tree.specs.Fitted.{at_of}
 use Rattle.udf_tree.specs.Nodes.{numbered}
 use Rattle.udf_tree.specs.Survey.{named_by, pointed_by}
 use Rattle.udf_tree.proofs.Mending.{got}
-use Rattle.udf_tree.proofs.Naming.{read_at}
+use Rattle.udf_tree.proofs.Elements.{read_at}
 use Rattle.udf_tree.proofs.Streaming.{index_kept, told_more}
 use Rattle.udf_tree.proofs.pointers.pointers_of.Goals as goal
 
