@@ -11,7 +11,7 @@ work=$(mktemp -d)
 trap 'rm -rf "$work"' EXIT
 mkdir "$work/crates"
 for crate in udf_model udf_field udf_claims udf_text udf_file_model udf_tree_model udf_dir udf_outside udf_volume_model udf_layer \
-    udf_entry udf_volume udf_tree; do
+    udf_entry udf_volume udf_found udf_held udf_kept udf_contents udf_dues udf_tree; do
     cp -r "$top/crates/$crate" "$work/crates/"
     grep "^$crate:" "$top/crates.txt" >> "$work/crates.txt"
 done

@@ -12,9 +12,9 @@ use Rattle.udf_tree_model.specs.Counts.{free_ids, id_of, is_lawful_id, keeps_id,
 use Rattle.udf_tree_model.specs.Frame.{Frame}
 use Rattle.udf_tree_model.specs.Parent.{ordinary}
 use Rattle.udf_tree_model.proofs.Members.{all_from, any_gives, contains_of}
-use Rattle.udf_tree.proofs.Ascending.{not_lower_itself}
-use Rattle.udf_tree.proofs.Differing.{wanted_differ}
-use Rattle.udf_tree.proofs.Numbering.{are_ordinary}
+use Rattle.udf_dues.proofs.Ascending.{not_lower_itself}
+use Rattle.udf_dues.proofs.Differing.{wanted_differ}
+use Rattle.udf_dues.proofs.Numbering.{are_ordinary}
 use Rattle.udf_rules_model.specs.FileRules.{identifier_rule}
 use Rattle.udf_rules_model.specs.Integrity.{greatest, greatest_id}
 use Rattle.udf_count_laws.specs.Alike.{AreAlike, StatesWanted}

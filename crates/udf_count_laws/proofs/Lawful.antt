@@ -15,10 +15,10 @@ use Rattle.udf_tree_model.specs.Counts.{free_ids, id_of, is_id_kept, is_lawful_i
 use Rattle.udf_tree_model.specs.Frame.{Frame, addresses_below, places}
 use Rattle.udf_tree_model.specs.Parent.{ordinary}
 use Rattle.udf_tree_model.proofs.Members.{member_filter}
-use Rattle.udf_tree.specs.Identifiers.{free_among}
-use Rattle.udf_tree.proofs.Ascending.{not_lower_itself}
-use Rattle.udf_tree.proofs.Filling.{enough_free}
-use Rattle.udf_tree.proofs.Numbering.{are_ordinary, free_is, own}
+use Rattle.udf_dues.specs.Identifiers.{free_among}
+use Rattle.udf_dues.proofs.Ascending.{not_lower_itself}
+use Rattle.udf_dues.proofs.Filling.{enough_free}
+use Rattle.udf_dues.proofs.Numbering.{are_ordinary, free_is, own}
 
 -- a volume has no more places than addresses
 row_long : (n a k : ℕ) → length (flat_map (λ part. addresses_from (addr part 0) n) (range_with_len a k)) ≡ k * n

@@ -22,7 +22,7 @@ use Rattle.udf_tree.specs.declared.stated.Stated.{Stated}
 use Rattle.udf_tree.specs.Nodes.{IsNode, is_whole, is_whole_by, node_addresses}
 use Rattle.udf_tree.specs.Stated.{stated_at, stated_by}
 use Rattle.udf_tree.specs.Survey.{IsSurvey, View, named_by, pointed_from, wanted_content}
-use Rattle.udf_tree.proofs.ByIndex.{member_at}
+use Rattle.udf_kept.proofs.ByIndex.{member_at}
 use Rattle.udf_file_mends.specs.Repairable.{IsRepairable}
 use Rattle.udf_file_mends.specs.Wanted.{loses_pointer}
 use Rattle.udf_file_mends.proofs.Held as held

@@ -12,7 +12,7 @@ use Rattle.udf_volume.specs.Areas.{partition_stated}
 use Rattle.udf_volume.specs.declared.volume.Volume as code
 use Rattle.udf_rules_model.specs.Bitmap.{free_blocks}
 use Rattle.udf_rules_model.specs.Places.{place_by}
-use Rattle.udf_tree.proofs.Balancing.{count_map}
+use Rattle.udf_dues.proofs.Balancing.{count_map}
 use Rattle.udf_free.specs.Free.{StandsWhole, free_bits}
 use Rattle.udf_free.proofs.Standing.{stands_whole}
 use Rattle.udf_files.specs.Files.{AreOverVolume, places_in}

@@ -8,7 +8,7 @@ use Rattle.udf_field.specs.declared.address.Addr.{Addr}
 use Rattle.udf_tree_model.specs.Among.{Member}
 use Rattle.udf_tree_model.specs.Chosen.{is_lower}
 use Rattle.udf_tree_model.proofs.Members.{member_filter}
-use Rattle.udf_tree.proofs.Ascending.{Ascending, not_lower_itself}
+use Rattle.udf_dues.proofs.Ascending.{Ascending, not_lower_itself}
 
 pub none_filtered : {A : Type 0} (p : A → Bool) (xs : List A) → ((a : A) → Member a xs → p a ≡ false) → filter p xs ≡ []
 none_filtered p [] h = refl

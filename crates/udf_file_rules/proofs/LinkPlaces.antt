@@ -16,7 +16,7 @@ use Rattle.udf_tree_model.specs.Link.{Link, fid_link, fid_links, is_pointer, poi
 use Rattle.udf_tree_model.specs.Won.{kept_links}
 use Rattle.udf_tree_model.proofs.Linking.{Distinct}
 use Rattle.udf_tree_model.proofs.Members.{any_gives, member_map}
-use Rattle.udf_tree.proofs.Ruling.{first_below, links_are, place_among, places, rest_ascends}
+use Rattle.udf_contents.proofs.Ruling.{first_below, links_are, place_among, places, rest_ascends}
 
 -- ---- the places differ
 fids_differ : (q : Placed → Bool) (ps : List Placed) → AllPairs (λ a b. a < b) (offsets ps) → Distinct (places (map fid_link (filter q ps)))

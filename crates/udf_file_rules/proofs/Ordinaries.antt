@@ -27,7 +27,7 @@ use Rattle.udf_tree.specs.declared.node.Node.{Node}
 use Rattle.udf_tree.specs.declared.node.NodeId.{NodeId}
 use Rattle.udf_tree.specs.Nodes.{IsNode, node_addresses}
 use Rattle.udf_tree.specs.Survey.{IsSurvey, View}
-use Rattle.udf_tree.proofs.ByIndex.{member_at}
+use Rattle.udf_kept.proofs.ByIndex.{member_at}
 use Rattle.udf_tree.proofs.Enrolling.{entry_kept, kept_parts}
 use Rattle.udf_rules_model.specs.Integrity.{greatest, greatest_id}
 use Rattle.udf_file_rules.specs.Tallied.{ordinary_along, ordinary_at, ordinary_by, tally_of}

@@ -22,15 +22,15 @@ use Rattle.udf_rules.specs.Findings.{finding_of}
 use Rattle.udf_rules.specs.declared.finding.Finding.{Finding}
 use Rattle.udf_rules_model.specs.FileRules.{allocation_by, allocation_findings, count_findings, counts_by, links_by}
 use Rattle.udf_rules_model.specs.Found.{found_at, unless}
-use Rattle.udf_tree.specs.declared.counts.Count.{Count}
+use Rattle.udf_dues.specs.declared.counts.Count.{Count}
 use Rattle.udf_tree.specs.declared.node.Node.{Node}
 use Rattle.udf_tree.specs.declared.node.NodeId.{NodeId}
 use Rattle.udf_tree.specs.declared.stated.Stated.{Stated}
-use Rattle.udf_tree.specs.Counts.{count_of as count_there}
+use Rattle.udf_dues.specs.Counts.{count_of as count_there}
 use Rattle.udf_tree.specs.Nodes.{IsNode, is_whole, is_whole_by, node_addresses}
 use Rattle.udf_tree.specs.Stated.{stated_at, stated_by}
 use Rattle.udf_tree.specs.Survey.{IsSurvey, View}
-use Rattle.udf_tree.proofs.ByIndex.{member_at}
+use Rattle.udf_kept.proofs.ByIndex.{member_at}
 use Rattle.udf_file_rules.specs.Seen as seen
 use Rattle.udf_file_rules.proofs.Along.{along}
 use Rattle.udf_file_rules.proofs.Entry.{entry_there}

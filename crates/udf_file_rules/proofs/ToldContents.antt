@@ -25,13 +25,13 @@ use Rattle.udf_tree.specs.declared.kept_contents.KeptContent.{KeptContent}
 use Rattle.udf_tree.specs.declared.node.Node.{Node}
 use Rattle.udf_tree.specs.declared.node.NodeId.{NodeId}
 use Rattle.udf_tree.specs.declared.stated.Stated.{Stated}
-use Rattle.udf_tree.specs.Beyond.{HoldsFileSet}
+use Rattle.udf_found.specs.Beyond.{HoldsFileSet}
 use Rattle.udf_tree.specs.KeptContents.{content_to_keep, kept_content_of}
 use Rattle.udf_tree.specs.Nodes.{IsNode, node_addresses}
 use Rattle.udf_tree.specs.Stated.{stated_at, stated_by}
 use Rattle.udf_tree.specs.Survey.{IsSurvey, View, wanted_content}
 use Rattle.udf_tree.proofs.Enrolling.{entry_kept, kept_parts}
-use Rattle.udf_tree.proofs.Seeing.{file_set_plain}
+use Rattle.udf_found.proofs.Seeing.{file_set_plain}
 use Rattle.udf_file_rules.specs.Seen as seen
 use Rattle.udf_file_rules.specs.SeenContents as seen_contents
 use Rattle.udf_file_rules.proofs.Along.{address_there, along, guarded, narrowed}

@@ -28,14 +28,14 @@ use Rattle.udf_rules_model.specs.Found.{found_at}
 use Rattle.udf_tree.specs.declared.judge.Verdict.{Verdict}
 use Rattle.udf_tree.specs.declared.node.Node.{Node}
 use Rattle.udf_tree.specs.declared.node.NodeId.{NodeId}
-use Rattle.udf_tree.specs.Beyond.{HoldsFileSet}
+use Rattle.udf_found.specs.Beyond.{HoldsFileSet}
 use Rattle.udf_tree.specs.Judged.{is_lawful_target, judged_all, judged_links, verdict}
-use Rattle.udf_tree.specs.Linked.{earliers_after, first_with}
-use Rattle.udf_tree.specs.Selects.{is_rank_at}
+use Rattle.udf_found.specs.Linked.{earliers_after, first_with}
+use Rattle.udf_kept.specs.Selects.{is_rank_at}
 use Rattle.udf_tree.specs.Survey.{IsSurvey, View}
 use Rattle.udf_tree.proofs.Enrolling.{entry_kept}
-use Rattle.udf_tree.proofs.Ruling.{places}
-use Rattle.udf_tree.proofs.Seeing.{file_set_plain, holder_address}
+use Rattle.udf_contents.proofs.Ruling.{places}
+use Rattle.udf_found.proofs.Seeing.{file_set_plain, holder_address}
 use Rattle.udf_file_rules.specs.Seen.{seen_at}
 use Rattle.udf_file_rules.specs.SeenLinks as seen
 use Rattle.udf_file_rules.proofs.Along.{along, guarded, narrowed}

@@ -38,17 +38,17 @@ use Rattle.udf_tree.specs.declared.judge.Verdict.{Verdict}
 use Rattle.udf_tree.specs.declared.node.Node.{Node}
 use Rattle.udf_tree.specs.declared.node.NodeId.{NodeId}
 use Rattle.udf_tree.specs.declared.stated.Stated.{Stated}
-use Rattle.udf_tree.specs.Entries.{HasFileSet}
+use Rattle.udf_kept.specs.Entries.{HasFileSet}
 use Rattle.udf_tree.specs.Judged.{is_sound_target, judged_all, judged_links, verdict}
-use Rattle.udf_tree.specs.Linked.{earliers}
+use Rattle.udf_found.specs.Linked.{earliers}
 use Rattle.udf_tree.specs.Nodes.{node_addresses}
 use Rattle.udf_tree.specs.Stated.{stated_at, stated_by}
 use Rattle.udf_tree.specs.Survey.{IsSurvey, View, named_by, pointed_from, system_from}
-use Rattle.udf_tree.proofs.Ascending.{places_ascend}
-use Rattle.udf_tree.proofs.Beginning.{holder_start}
+use Rattle.udf_dues.proofs.Ascending.{places_ascend}
+use Rattle.udf_found.proofs.Beginning.{holder_start}
 use Rattle.udf_tree.proofs.Placing.{earliers_long}
-use Rattle.udf_tree.proofs.Ruling.{links_are}
-use Rattle.udf_tree.proofs.Seeing.{holder_address}
+use Rattle.udf_contents.proofs.Ruling.{links_are}
+use Rattle.udf_found.proofs.Seeing.{holder_address}
 use Rattle.udf_file_rules.specs.SeenLinks as seen
 use Rattle.udf_file_rules.proofs.Along.{along}
 use Rattle.udf_file_rules.proofs.Entry.{entry_there}

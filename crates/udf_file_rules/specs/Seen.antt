@@ -4,7 +4,7 @@ use Rattle.std.specs.List.{flat_map}
 use Rattle.udf_field.specs.declared.address.Addr.{Addr}
 use Rattle.udf_rules.specs.declared.finding.Finding.{Finding}
 use Rattle.udf_rules.specs.declared.finding.Place.TheVariants.{At}
-use Rattle.udf_tree.specs.declared.counts.Count.{Count}
+use Rattle.udf_dues.specs.declared.counts.Count.{Count}
 use Rattle.udf_tree.specs.declared.judge.Verdict.{Verdict}
 use Rattle.udf_tree.specs.declared.node.Node.{Node}
 use Rattle.udf_tree.specs.declared.node.NodeId.{NodeId}

@@ -4,8 +4,8 @@ use Rattle.udf_file_model.specs.Listing.{Volume}
 use Rattle.udf_tree_model.specs.Frame.{Frame, setting_of, tree_of}
 use Rattle.udf_tree_model.specs.Laws.{HasSoundStarts}
 use Rattle.udf_tree_model.specs.Stated.{IsFileSetPlaced}
-use Rattle.udf_tree.specs.Beyond.{HoldsFileSet}
-use Rattle.udf_tree.specs.Entries.{HasFileSet}
+use Rattle.udf_found.specs.Beyond.{HoldsFileSet}
+use Rattle.udf_kept.specs.Entries.{HasFileSet}
 use Rattle.udf_tree.specs.Survey.{IsSurvey, View}
 use Rattle.udf_volume.specs.declared.site.FileSet.{FileSet}
 

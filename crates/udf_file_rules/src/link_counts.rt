@@ -10,8 +10,9 @@ ghost use Rattle.std.specs.Prelude.{◌≡◌, ◌++◌, OnOk};
 ghost use Rattle.udf_file_rules.specs.Seen.{counts_along, count_of, list_of};
 
 use std::alloc::AllocError;
+use udf_dues::Count;
 use udf_rules::{Finding, Findings, Place};
-use udf_tree::{Count, Node, Stated, Survey};
+use udf_tree::{Node, Stated, Survey};
 
 /// The number of the rule.
 const RULE: u8 = 10;

@@ -26,8 +26,8 @@ use Rattle.udf_volume.specs.declared.opened.Opened.{Opened}
 use Rattle.udf_volume.specs.declared.site.FileSet.{FileSet}
 use Rattle.udf_volume.specs.declared.volume.Volume.{Volume}
 use Rattle.udf_tree_model.specs.Frame.{Frame}
-use Rattle.udf_tree.specs.Beyond.{HoldsFileSet}
-use Rattle.udf_tree.specs.Entries.{HasFileSet}
+use Rattle.udf_found.specs.Beyond.{HoldsFileSet}
+use Rattle.udf_kept.specs.Entries.{HasFileSet}
 use Rattle.udf_rules_model.specs.Files.{files_in, frame_in, places_of, site_in}
 use Rattle.udf_rules_model.specs.Places.{place_by}
 use Rattle.std.specs.Prelude.{nat_lt, ◌==◌}

@@ -11,8 +11,8 @@ use Rattle.udf_layer.specs.declared.missing.LayerStop.TheVariants as stops
 use Rattle.udf_volume.specs.FileSet as volume_set
 use Rattle.udf_volume.specs.declared.site.FileSet.{FileSet}
 use Rattle.udf_volume.specs.declared.volume.Volume.{Volume}
-use Rattle.udf_tree.specs.Beyond.{IsAnswer}
-use Rattle.udf_tree.specs.Entries as entries
+use Rattle.udf_found.specs.Beyond.{IsAnswer}
+use Rattle.udf_kept.specs.Entries as entries
 use Rattle.udf_tree.specs.Survey.{View}
 use Rattle.udf_integrity.specs.Answers.{FindsIntegrity, RefusesIntegrity}
 use Rattle.udf_rules_model.specs.Files.{files_in, frame_in, site_in}

@@ -12,7 +12,7 @@ use Rattle.udf_volume_model.specs.Layout.{are_packets_of}
 use Rattle.udf_volume_model.specs.SparingTable.{Table}
 use Rattle.udf_volume.specs.Areas.{areas_stated, partition_stated}
 use Rattle.udf_rules_model.specs.Places.{place_by}
-use Rattle.udf_tree.specs.Beyond.{HoldsFileSet}
+use Rattle.udf_found.specs.Beyond.{HoldsFileSet}
 use Rattle.udf_tree.specs.Survey.{IsSurvey}
 use Rattle.udf_volume.specs.FileSet.{IsFileSet}
 use Rattle.udf_volume.specs.declared.volume.Volume.{Volume}

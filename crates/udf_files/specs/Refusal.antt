@@ -11,7 +11,7 @@ use Rattle.udf_layer.specs.declared.missing.LayerStop.{LayerStop}
 use Rattle.udf_layer.specs.declared.missing.LayerStop.TheVariants as stops
 use Rattle.udf_volume.specs.FileSet as volume_set
 use Rattle.udf_volume.specs.declared.volume.Volume.{Volume}
-use Rattle.udf_tree.specs.Entries as entries
+use Rattle.udf_kept.specs.Entries as entries
 use Rattle.udf_rules_model.specs.Files.{files_in, frame_in, site_in}
 use Rattle.udf_rules_model.specs.Integrity.{names_chain}
 

@@ -8,7 +8,7 @@ use Rattle.udf_claims.specs.Winner.{claimed}
 use Rattle.udf_claims.specs.declared.run.Run.{Run}
 use Rattle.udf_file_model.specs.Address.{addr}
 use Rattle.udf_file_model.specs.Listing.{Volume}
-use Rattle.udf_tree.specs.After.{TellsTaken}
+use Rattle.udf_contents.specs.After.{TellsTaken}
 use Rattle.udf_tree_model.specs.Claimed.{is_free}
 use Rattle.udf_tree_model.specs.Frame.{Frame}
 use Rattle.udf_free.specs.declared.taken.Taken.{Taken}

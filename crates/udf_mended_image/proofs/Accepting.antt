@@ -20,7 +20,7 @@ use Rattle.udf_volume.specs.Taken.{opening}
 use Rattle.udf_volume.specs.declared.volume.Volume.{Volume}
 use Rattle.udf_volume.proofs.Described.{opened_ok, size_is}
 use Rattle.udf_partitions.proofs.Placing.{partition_inside}
-use Rattle.udf_tree.specs.Entries as entries
+use Rattle.udf_kept.specs.Entries as entries
 use Rattle.udf_rules_model.specs.Files.{files_in, frame_in, site_in}
 use Rattle.udf_rules_model.specs.Integrity.{names_chain}
 use Rattle.udf_files.specs.Refusal.{files_refusal, or_else}

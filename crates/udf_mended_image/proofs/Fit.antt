@@ -23,7 +23,7 @@ use Rattle.udf_tree_model.specs.Frame.{Frame, places}
 use Rattle.udf_tree_model.specs.Ordinary.{ordinary_directories, ordinary_files}
 use Rattle.udf_tree_model.specs.Parent.{ordinary}
 use Rattle.udf_tree_model.proofs.Members.{member_filter, member_of_map}
-use Rattle.udf_tree.proofs.Ascending.{Ascending, places_ascend}
+use Rattle.udf_dues.proofs.Ascending.{Ascending, places_ascend}
 use Rattle.udf_volume_model.specs.Kept.{KeptSequence, kept}
 use Rattle.udf_volume_model.specs.Prevailing.{prevailing_index}
 use Rattle.udf_volume_laws.proofs.After.{whole}

@@ -15,7 +15,7 @@ use Rattle.udf_volume.specs.FileSet as volume_set
 use Rattle.udf_volume.specs.Taken.{opening}
 use Rattle.udf_volume.specs.Writable.{is_protected}
 use Rattle.udf_volume.specs.declared.volume.Volume.{Volume}
-use Rattle.udf_tree.specs.Entries as entries
+use Rattle.udf_kept.specs.Entries as entries
 use Rattle.udf_rules_model.specs.Files.{files_in, frame_in, site_in}
 use Rattle.udf_rules_model.specs.Findings.{further_rules_hold}
 use Rattle.udf_rules_model.specs.Integrity.{names_chain}

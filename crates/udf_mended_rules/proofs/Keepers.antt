@@ -27,7 +27,7 @@ use Rattle.udf_tree_model.proofs.Parents.{keeping_directory}
 use Rattle.udf_tree_model.proofs.Places.{same_address}
 use Rattle.udf_tree_model.proofs.Reached.{round_gives, same_rounds, zero_round}
 use Rattle.udf_file_mends.specs.FileSet.{frame_after}
-use Rattle.udf_tree.proofs.Ordinaries.{fitted_place}
+use Rattle.udf_kept.proofs.Ordinaries.{fitted_place}
 use Rattle.udf_mended_rules.specs.AllMends.{HasAllMends}
 use Rattle.udf_mended_rules.proofs.Dropped.{IsSameBut}
 use Rattle.udf_mended_rules.proofs.Holder.{holder_start, is_gone, mended_tree, told_same}

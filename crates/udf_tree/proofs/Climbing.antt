@@ -14,7 +14,7 @@ use Rattle.udf_tree.specs.declared.node.Node.{Node}
 use Rattle.udf_tree.specs.Nodes.{node_addresses}
 use Rattle.udf_tree.specs.Path.{IsRise, step_name, texts_of}
 use Rattle.udf_tree.specs.Rise.{AreSteps, HasCome, name_at}
-use Rattle.udf_tree.proofs.ByIndex.{member_at}
+use Rattle.udf_kept.proofs.ByIndex.{member_at}
 
 pub come_begins : (f : Frame) (v : Volume) (ns : List Node) (a : Addr) (i : ℕ) → slice_get (node_addresses ns) i ≡ Some a → HasCome f v ns a i []
 come_begins f v ns a i e = record { here = a; at_is = e; rest = λ names r. r }

@@ -27,22 +27,22 @@ use Rattle.udf_tree_model.proofs.Members.{any_from, any_gives, member_append, me
 use Rattle.udf_tree_model.proofs.Parents.{keeping_by}
 use Rattle.udf_tree_model.proofs.Places.{address_same, same_address}
 use Rattle.udf_tree_model.proofs.Stating.{accepted_starts}
-use Rattle.udf_tree.specs.declared.entries.Entries.{Entries}
-use Rattle.udf_tree.specs.declared.held.Held.{Held}
-use Rattle.udf_tree.specs.declared.keeping.Keeping.{Keeping}
+use Rattle.udf_kept.specs.declared.entries.Entries.{Entries}
+use Rattle.udf_held.specs.declared.held.Held.{Held}
+use Rattle.udf_kept.specs.declared.keeping.Keeping.{Keeping}
 use Rattle.udf_tree.specs.declared.node.Node.{Node}
 use Rattle.udf_tree.specs.declared.node.NodeId.{NodeId}
-use Rattle.udf_tree.specs.declared.shape.Shape.{Shape}
-use Rattle.udf_tree.specs.Beyond.{HoldsFileSet}
-use Rattle.udf_tree.specs.Held.{IsHeld, IsHeldOf, held_spots}
-use Rattle.udf_tree.specs.Keeping.{AreKeptOf, IsKeeping, IsKeptBy}
+use Rattle.udf_found.specs.declared.shape.Shape.{Shape}
+use Rattle.udf_found.specs.Beyond.{HoldsFileSet}
+use Rattle.udf_held.specs.Held.{IsHeld, IsHeldOf, held_spots}
+use Rattle.udf_kept.specs.Keeping.{AreKeptOf, IsKeeping, IsKeptBy}
 use Rattle.udf_tree_model.specs.Ordinary.{is_kept_entry}
 use Rattle.udf_tree.specs.Nodes.{AreNodes, AreSurveyed, IsNode, IsNumbering, StandOnce, is_numbered, is_whole, is_whole_by, node_address, node_addresses, numbered, numbered_at}
-use Rattle.udf_tree.specs.Shape.{IsShaped}
-use Rattle.udf_tree.specs.Spot.{ComeOnce, addresses, spot}
-use Rattle.udf_tree.proofs.ByIndex.{found_stands, member_at, test_at}
-use Rattle.udf_tree.proofs.Mending.{keeping_there}
-use Rattle.udf_tree.proofs.Seeing.{file_set_plain, holder_address}
+use Rattle.udf_found.specs.Shape.{IsShaped}
+use Rattle.udf_found.specs.Spot.{ComeOnce, addresses, spot}
+use Rattle.udf_kept.proofs.ByIndex.{found_stands, member_at, test_at}
+use Rattle.udf_contents.proofs.Mending.{keeping_there}
+use Rattle.udf_found.proofs.Seeing.{file_set_plain, holder_address}
 
 pub and_both : (a b : Bool) → a ≡ true → b ≡ true → (a && b) ≡ true
 and_both a b e h = ap (λ (x : Bool). x && b) e ∙ h

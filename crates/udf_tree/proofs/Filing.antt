@@ -20,22 +20,22 @@ use Rattle.udf_tree_model.proofs.Finding.{found_readable, volume_within}
 use Rattle.udf_tree_model.proofs.Keeping.{edge_from, kept_found, kept_target}
 use Rattle.udf_tree_model.proofs.Members.{member_map}
 use Rattle.udf_tree_model.proofs.Places.{placed_among, readable_placed}
-use Rattle.udf_tree.specs.declared.entries.Entries.{Entries}
-use Rattle.udf_tree.specs.declared.fitted.Fitted.{Fitted}
-use Rattle.udf_tree.specs.declared.held.Held.{Held}
+use Rattle.udf_kept.specs.declared.entries.Entries.{Entries}
+use Rattle.udf_kept.specs.declared.fitted.Fitted.{Fitted}
+use Rattle.udf_held.specs.declared.held.Held.{Held}
 use Rattle.udf_tree.specs.Files.{files_from, files_seen, is_directory_held, is_directory_in, is_of_file}
-use Rattle.udf_tree.specs.Fitted.{Step, at_by, at_of, step_of, step_seen}
+use Rattle.udf_kept.specs.Fitted.{Step, at_by, at_of, step_of, step_seen}
 use Rattle.udf_tree.specs.Nodes.{AreSurveyed}
-use Rattle.udf_tree.specs.Spot.{spot}
-use Rattle.udf_tree.specs.Stays.{fitted_by}
-use Rattle.udf_tree.proofs.Ascending.{places_ascend}
-use Rattle.udf_tree.proofs.Balancing.{count_map, count_same}
-use Rattle.udf_tree.proofs.ByIndex.{found_stands, member_at, test_at}
+use Rattle.udf_found.specs.Spot.{spot}
+use Rattle.udf_contents.specs.Stays.{fitted_by}
+use Rattle.udf_dues.proofs.Ascending.{places_ascend}
+use Rattle.udf_dues.proofs.Balancing.{count_map, count_same}
+use Rattle.udf_kept.proofs.ByIndex.{found_stands, member_at, test_at}
 use Rattle.udf_tree.proofs.Enrolling.{starts}
-use Rattle.udf_tree.proofs.KeptParents.{directory_is}
-use Rattle.udf_tree.proofs.Ordinaries.{fitted_place, ordinary_kept}
+use Rattle.udf_dues.proofs.KeptParents.{directory_is}
+use Rattle.udf_kept.proofs.Ordinaries.{fitted_place, ordinary_kept}
 use Rattle.udf_tree.proofs.Streaming.{steps_are}
-use Rattle.udf_tree.proofs.Totals.{StandsAmong, sum_held}
+use Rattle.udf_dues.proofs.Totals.{StandsAmong, sum_held}
 
 module _ (f : Frame) (v : Volume) (root file_set : Addr) (e : Entries) (links ids : List ℕ) (k : AreSurveyed f v root file_set e links ids) where
   abbrev hs : List Held

@@ -23,25 +23,25 @@ use Rattle.udf_tree_model.specs.Won.{kept_links, sound}
 use Rattle.udf_tree_model.proofs.Keeping.{kept_sound, sound_found}
 use Rattle.udf_tree_model.proofs.Finding.{volume_within}
 use Rattle.udf_tree_model.proofs.Members.{member_map}
-use Rattle.udf_tree.specs.declared.entries.Entries.{Entries}
-use Rattle.udf_tree.specs.declared.held.Held.{Held}
+use Rattle.udf_kept.specs.declared.entries.Entries.{Entries}
+use Rattle.udf_held.specs.declared.held.Held.{Held}
 use Rattle.udf_tree.specs.declared.judge.Verdict.{Verdict}
-use Rattle.udf_tree.specs.declared.link.Link.{Link}
+use Rattle.udf_found.specs.declared.link.Link.{Link}
 use Rattle.udf_tree.specs.declared.node.Node.{Node}
-use Rattle.udf_tree.specs.Fitted.{at_by, at_of}
-use Rattle.udf_tree.specs.Held.{AreHeld, IsHeld, IsHeldOf}
-use Rattle.udf_tree.specs.Indexed.{IsIndex}
+use Rattle.udf_kept.specs.Fitted.{at_by, at_of}
+use Rattle.udf_held.specs.Held.{AreHeld, IsHeld, IsHeldOf}
+use Rattle.udf_kept.specs.Indexed.{IsIndex}
 use Rattle.udf_tree.specs.Judged.{AreJudged, AreJudgedOf, IsJudged, entries_of, is_lawful_target, is_sound_target, judged, judged_by, judged_links, judged_in, verdict, verdict_by, verdict_in}
-use Rattle.udf_tree.specs.Linked.{Outline, earliers, outline_of, outline_seen}
+use Rattle.udf_found.specs.Linked.{Outline, earliers, outline_of, outline_seen}
 use Rattle.udf_tree.specs.Nodes.{AreSurveyed, node_addresses}
-use Rattle.udf_tree.specs.Stays.{Tells}
-use Rattle.udf_tree.specs.Spot.{spot}
-use Rattle.udf_tree.specs.Selects.{is_rank_at}
-use Rattle.udf_tree.proofs.ByIndex.{member_at}
+use Rattle.udf_contents.specs.Stays.{Tells}
+use Rattle.udf_found.specs.Spot.{spot}
+use Rattle.udf_kept.specs.Selects.{is_rank_at}
+use Rattle.udf_kept.proofs.ByIndex.{member_at}
 use Rattle.udf_tree.proofs.Enrolling.{starts}
-use Rattle.udf_tree.proofs.Choosing.{held_for}
+use Rattle.udf_kept.proofs.Choosing.{held_for}
 use Rattle.udf_tree.proofs.Placing.{all_judged, earliers_long, links_in}
-use Rattle.udf_tree.proofs.Staying.{entry_is}
+use Rattle.udf_contents.proofs.Staying.{entry_is}
 use Rattle.udf_tree.proofs.Surveying.{heads}
 
 module _ (f : Frame) (v : Volume) where

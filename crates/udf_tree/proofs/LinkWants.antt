@@ -5,16 +5,16 @@ use Rattle.std.proofs.lemmas.Option.{same_Some, get_or_from_slice_get, slice_get
 use Rattle.udf_file_model.specs.Listing.{Volume}
 use Rattle.udf_tree_model.specs.Counts.{links_between, links_by, low_count, wanted_id, wanted_links}
 use Rattle.udf_tree_model.specs.Frame.{Frame}
-use Rattle.udf_tree.specs.declared.counts.Count.{Count}
-use Rattle.udf_tree.specs.declared.held.Held.{Held}
-use Rattle.udf_tree.specs.declared.keeping.Keeping.{Keeping}
-use Rattle.udf_tree.specs.declared.shape.Shape.{Shape}
-use Rattle.udf_tree.specs.Counts.{AreCounts, AreCountsOf, IsCount}
-use Rattle.udf_tree.specs.Held.{AreHeldOf}
-use Rattle.udf_tree.specs.LinkCounts.{AreSettled, links_seen, links_shaped}
+use Rattle.udf_dues.specs.declared.counts.Count.{Count}
+use Rattle.udf_held.specs.declared.held.Held.{Held}
+use Rattle.udf_kept.specs.declared.keeping.Keeping.{Keeping}
+use Rattle.udf_found.specs.declared.shape.Shape.{Shape}
+use Rattle.udf_dues.specs.Counts.{AreCounts, AreCountsOf, IsCount}
+use Rattle.udf_held.specs.Held.{AreHeldOf}
+use Rattle.udf_dues.specs.LinkCounts.{AreSettled, links_seen, links_shaped}
 use Rattle.udf_tree.specs.Nodes.{AreWanted}
-use Rattle.udf_tree.specs.Shape.{IsShaped}
-use Rattle.udf_tree.proofs.ByIndex.{member_at}
+use Rattle.udf_found.specs.Shape.{IsShaped}
+use Rattle.udf_kept.proofs.ByIndex.{member_at}
 
 pub count_there : (f : Frame) (v : Volume) (hs : List Held) (cs : List Count) → AreCountsOf f v hs cs → (i : ℕ) (h : Held) → slice_get hs i ≡ Some h → is_some h.shape ≡ true
     → (c : Count) × (slice_get cs i ≡ Some c) × IsCount f v h.at c

@@ -17,24 +17,24 @@ use Rattle.udf_tree_model.specs.Won.{kept_length}
 use Rattle.udf_tree_model.proofs.Finding.{volume_within}
 use Rattle.udf_tree_model.proofs.Keeping.{kept_sound}
 use Rattle.udf_tree_model.proofs.Stating.{node_is}
-use Rattle.udf_tree.specs.declared.entries.Entries.{Entries}
-use Rattle.udf_tree.specs.declared.fitted.Selected.{Selected}
-use Rattle.udf_tree.specs.declared.held.Held.{Held}
-use Rattle.udf_tree.specs.declared.keeping.Keeping.{Keeping}
+use Rattle.udf_kept.specs.declared.entries.Entries.{Entries}
+use Rattle.udf_kept.specs.declared.fitted.Selected.{Selected}
+use Rattle.udf_held.specs.declared.held.Held.{Held}
+use Rattle.udf_kept.specs.declared.keeping.Keeping.{Keeping}
 use Rattle.udf_tree.specs.declared.kept_contents.KeptContent.{KeptContent}
 use Rattle.udf_tree.specs.declared.node.Node.{Node}
-use Rattle.udf_tree.specs.declared.shape.Shape.{Shape}
-use Rattle.udf_tree.specs.Fitted.{AreSelectedOf, at_by, at_of}
-use Rattle.udf_tree.specs.Held.{IsHeld, IsHeldOf}
+use Rattle.udf_found.specs.declared.shape.Shape.{Shape}
+use Rattle.udf_kept.specs.Fitted.{AreSelectedOf, at_by, at_of}
+use Rattle.udf_held.specs.Held.{IsHeld, IsHeldOf}
 use Rattle.udf_tree.specs.KeptContents.{AreKeptContents, IsKeptContent, content_held, content_to_keep, kept_content_of}
-use Rattle.udf_tree.specs.Keeping.{IsKeeping, IsKeptBy}
+use Rattle.udf_kept.specs.Keeping.{IsKeeping, IsKeptBy}
 use Rattle.udf_tree.specs.Nodes.{AreSurveyed, IsNode, node_addresses}
-use Rattle.udf_tree.specs.Shape.{IsShaped}
-use Rattle.udf_tree.specs.Stays.{names_parent}
-use Rattle.udf_tree.proofs.Leaving.{content_length, kept_within}
-use Rattle.udf_tree.proofs.Ruling.{order_is}
-use Rattle.udf_tree.proofs.Indexing.{member_of_get}
-use Rattle.udf_tree.proofs.Mending.{keeping_there}
+use Rattle.udf_found.specs.Shape.{IsShaped}
+use Rattle.udf_contents.specs.Stays.{names_parent}
+use Rattle.udf_contents.proofs.Leaving.{content_length, kept_within}
+use Rattle.udf_contents.proofs.Ruling.{order_is}
+use Rattle.udf_kept.proofs.Indexing.{member_of_get}
+use Rattle.udf_contents.proofs.Mending.{keeping_there}
 use Rattle.udf_tree.proofs.Surveying.{IsFound, found_of, heads}
 
 module _ (f : Frame) (v : Volume) (h : Held) (i : IsHeld (setting_of f v) (tree_of f v) h) (o : IsHeldOf f v h) where

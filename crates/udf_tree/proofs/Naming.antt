@@ -7,14 +7,14 @@ use Rattle.std.proofs.lemmas.Option.{get_or_from_slice_get, same_Some, slice_get
 use Rattle.udf_field.specs.declared.address.Addr.{Addr}
 use Rattle.udf_tree_model.specs.Among.{Member}
 use Rattle.udf_tree_model.proofs.Members.{member_append}
-use Rattle.udf_tree.specs.declared.held.Held.{Held}
-use Rattle.udf_tree.specs.declared.keeping.Keeping.{Keeping}
+use Rattle.udf_held.specs.declared.held.Held.{Held}
+use Rattle.udf_kept.specs.declared.keeping.Keeping.{Keeping}
 use Rattle.udf_tree.specs.declared.node.NodeId.{NodeId}
-use Rattle.udf_tree.specs.Fitted.{at_by, at_of}
+use Rattle.udf_kept.specs.Fitted.{at_by, at_of}
 use Rattle.udf_tree.specs.Nodes.{AreWanted, IsNumbering, is_numbered, numbered}
-use Rattle.udf_tree.specs.Order.{addr_cmp}
-use Rattle.udf_tree.proofs.Indexing.{order_apart, order_same}
-use Rattle.udf_tree.proofs.Mending.{got}
+use Rattle.udf_found.specs.Order.{addr_cmp}
+use Rattle.udf_kept.proofs.Indexing.{order_apart, order_same}
+use Rattle.udf_contents.proofs.Mending.{got}
 
 -- ---- the entries that are to have numbers
 numbered_nothing : (ks : List (Option Keeping)) → numbered ks [] ≡ []

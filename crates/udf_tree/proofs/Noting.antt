@@ -8,24 +8,24 @@ use Rattle.udf_file_model.specs.Listing.{Volume}
 use Rattle.udf_tree_model.specs.Among.{Member}
 use Rattle.udf_tree_model.specs.Counts.{low_count}
 use Rattle.udf_tree_model.specs.Frame.{Frame, stream_of}
-use Rattle.udf_tree.specs.declared.counts.Count.{Count}
-use Rattle.udf_tree.specs.declared.entries.Entries.{Entries}
-use Rattle.udf_tree.specs.declared.held.Held.{Held}
+use Rattle.udf_dues.specs.declared.counts.Count.{Count}
+use Rattle.udf_kept.specs.declared.entries.Entries.{Entries}
+use Rattle.udf_held.specs.declared.held.Held.{Held}
 use Rattle.udf_tree.specs.declared.node.Node.{Node}
 use Rattle.udf_tree.specs.declared.node.NodeId.{NodeId}
 use Rattle.udf_tree.specs.declared.notes.Notes.{Notes}
-use Rattle.udf_tree.specs.declared.shape.Shape.{Shape}
+use Rattle.udf_found.specs.declared.shape.Shape.{Shape}
 use Rattle.udf_tree.specs.declared.stated.Stated.{Stated}
-use Rattle.udf_tree.specs.Counts.{AreCounts, IsCount, count_in, count_of}
-use Rattle.udf_tree.specs.Entries.{AreEntries}
-use Rattle.udf_tree.specs.Fitted.{at_of}
-use Rattle.udf_tree.specs.Marks.{no_count}
+use Rattle.udf_dues.specs.Counts.{AreCounts, IsCount, count_in, count_of}
+use Rattle.udf_kept.specs.Entries.{AreEntries}
+use Rattle.udf_kept.specs.Fitted.{at_of}
+use Rattle.udf_dues.specs.Marks.{no_count}
 use Rattle.udf_tree.specs.Nodes.{AreNodes, IsNumbering, node_addresses}
 use Rattle.udf_tree.specs.Notes.{AreAsMany, AreIndexed}
 use Rattle.udf_tree.specs.Ordered.{AreInOrder}
-use Rattle.udf_tree.specs.Shape.{IsShaped}
+use Rattle.udf_found.specs.Shape.{IsShaped}
 use Rattle.udf_tree.specs.Stated.{stated_at, stated_by, stated_held, stated_in, stated_shaped}
-use Rattle.udf_tree.proofs.Indexing.{member_of_get}
+use Rattle.udf_kept.proofs.Indexing.{member_of_get}
 use Rattle.udf_tree.proofs.LinkWants.{count_there}
 use Rattle.udf_tree.proofs.Sequencing.{all_within}
 use Rattle.udf_tree.proofs.Surveying.{IsFound, found_of, told_by_nodes}

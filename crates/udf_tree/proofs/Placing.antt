@@ -23,8 +23,8 @@ use Rattle.udf_tree_model.specs.Won.{kept_length, kept_links}
 use Rattle.udf_tree_model.proofs.Members.{member_map}
 use Rattle.udf_tree.specs.declared.judge.Verdict.{Verdict}
 use Rattle.udf_tree.specs.Judged.{judged, judged_all, judged_in, judged_links, verdict, verdict_in}
-use Rattle.udf_tree.specs.Linked.{earliers, earliers_after}
-use Rattle.udf_tree.proofs.Ruling.{first_below, place_among, places, rest_ascends}
+use Rattle.udf_found.specs.Linked.{earliers, earliers_after}
+use Rattle.udf_contents.proofs.Ruling.{first_below, place_among, places, rest_ascends}
 
 -- each number is below all later ones
 abbrev pub Rising : List ℕ → Type 0

@@ -18,16 +18,16 @@ use Rattle.udf_tree_model.proofs.Finding.{found_readable, volume_within}
 use Rattle.udf_tree_model.proofs.Keeping.{kept_found}
 use Rattle.udf_tree_model.proofs.Members.{member_filter, member_filtered}
 use Rattle.udf_tree_model.proofs.Places.{address_same, placed_among, readable_placed}
-use Rattle.udf_tree.specs.declared.entries.Entries.{Entries}
+use Rattle.udf_kept.specs.declared.entries.Entries.{Entries}
 use Rattle.udf_tree.specs.declared.node.NodeId.{NodeId}
 use Rattle.udf_tree.specs.Nodes.{AreSurveyed, IsNumbering, numbered}
-use Rattle.udf_tree.specs.Order.{addr_cmp}
+use Rattle.udf_found.specs.Order.{addr_cmp}
 use Rattle.udf_tree.specs.Ordered.{AreInOrder}
-use Rattle.udf_tree.proofs.Ascending.{Ascending, ascending_filter, not_lower_itself, places_ascend}
-use Rattle.udf_tree.proofs.Assigning.{same_ascending, sorted_ascend}
-use Rattle.udf_tree.proofs.ByIndex.{member_at}
+use Rattle.udf_dues.proofs.Ascending.{Ascending, ascending_filter, not_lower_itself, places_ascend}
+use Rattle.udf_dues.proofs.Assigning.{same_ascending, sorted_ascend}
+use Rattle.udf_kept.proofs.ByIndex.{member_at}
 use Rattle.udf_tree.proofs.Enrolling.{has_kept, kept_has, kept_parts, starts}
-use Rattle.udf_tree.proofs.Indexing.{order_same, same_order}
+use Rattle.udf_kept.proofs.Indexing.{order_same, same_order}
 use Rattle.udf_tree.proofs.Surveying.{heads}
 
 -- ---- a map by its entries

@@ -20,22 +20,22 @@ use Rattle.udf_tree_model.specs.Won.{kept_links}
 use Rattle.udf_tree_model.proofs.Finding.{volume_within}
 use Rattle.udf_tree_model.proofs.Keeping.{kept_sound}
 use Rattle.udf_tree_model.proofs.Parents.{keeping_by}
-use Rattle.udf_tree.specs.declared.entries.Entries.{Entries}
-use Rattle.udf_tree.specs.declared.fitted.Choice.{Choice}
-use Rattle.udf_tree.specs.declared.held.Held.{Held}
-use Rattle.udf_tree.specs.declared.keeping.Keeping.{Keeping}
-use Rattle.udf_tree.specs.declared.link.Link.{Link}
+use Rattle.udf_kept.specs.declared.entries.Entries.{Entries}
+use Rattle.udf_kept.specs.declared.fitted.Choice.{Choice}
+use Rattle.udf_held.specs.declared.held.Held.{Held}
+use Rattle.udf_kept.specs.declared.keeping.Keeping.{Keeping}
+use Rattle.udf_found.specs.declared.link.Link.{Link}
 use Rattle.udf_tree.specs.declared.node.Node.{Node}
-use Rattle.udf_tree.specs.Fitted.{IsChoice, at_of}
-use Rattle.udf_tree.specs.Keeping.{IsKeeping}
-use Rattle.udf_tree.specs.Linked.{Outline, outline_of, outline_seen, text_of}
+use Rattle.udf_kept.specs.Fitted.{IsChoice, at_of}
+use Rattle.udf_kept.specs.Keeping.{IsKeeping}
+use Rattle.udf_found.specs.Linked.{Outline, outline_of, outline_seen, text_of}
 use Rattle.udf_tree.specs.Nodes.{AreSurveyed, node_addresses}
 use Rattle.udf_tree.specs.Path.{AreNamed, AreNamedOf, HasIndexes, HaveIndexes, HaveIndexesOf, IsNamed, texts_of, index_by, name_by, name_in, step_name, text_by, text_with}
-use Rattle.udf_tree.proofs.ByIndex.{member_at}
+use Rattle.udf_kept.proofs.ByIndex.{member_at}
 use Rattle.udf_tree.proofs.Enrolling.{starts}
-use Rattle.udf_tree.proofs.Indexing.{held_at}
+use Rattle.udf_kept.proofs.Indexing.{held_at}
 use Rattle.udf_tree.proofs.Judging.{equal_places, order_is}
-use Rattle.udf_tree.proofs.Mending.{keeping_there}
+use Rattle.udf_contents.proofs.Mending.{keeping_there}
 use Rattle.udf_tree.proofs.Surveying.{heads}
 
 -- ---- one link after another

@@ -17,22 +17,22 @@ use Rattle.udf_tree_model.specs.Won.{sound}
 use Rattle.udf_tree_model.proofs.Finding.{volume_within}
 use Rattle.udf_tree_model.proofs.Keeping.{edge_from, fitted_gives, kept_found, kept_sound, kept_start, kept_target}
 use Rattle.udf_tree_model.proofs.Members.{member_append}
-use Rattle.udf_tree.specs.declared.entries.Entries.{Entries}
-use Rattle.udf_tree.specs.declared.fitted.Fitted.{Fitted}
-use Rattle.udf_tree.specs.declared.fitted.Selected.{Selected}
-use Rattle.udf_tree.specs.declared.held.Held.{Held}
+use Rattle.udf_kept.specs.declared.entries.Entries.{Entries}
+use Rattle.udf_kept.specs.declared.fitted.Fitted.{Fitted}
+use Rattle.udf_kept.specs.declared.fitted.Selected.{Selected}
+use Rattle.udf_held.specs.declared.held.Held.{Held}
 use Rattle.udf_tree.specs.declared.node.NodeId.{NodeId}
-use Rattle.udf_tree.specs.declared.shape.Shape.{Shape}
-use Rattle.udf_tree.specs.Fitted.{Step, at_by, at_of, step_of, step_seen}
+use Rattle.udf_found.specs.declared.shape.Shape.{Shape}
+use Rattle.udf_kept.specs.Fitted.{Step, at_by, at_of, step_of, step_seen}
 use Rattle.udf_tree.specs.Nodes.{AreSurveyed, IsNumbering, numbered}
-use Rattle.udf_tree.specs.Shape.{IsShaped}
-use Rattle.udf_tree.specs.Stays.{fitted_by}
+use Rattle.udf_found.specs.Shape.{IsShaped}
+use Rattle.udf_contents.specs.Stays.{fitted_by}
 use Rattle.udf_tree.specs.Survey.{named_by, pointed_by, pointed_from, system_from}
-use Rattle.udf_tree.proofs.Beginning.{holder_start}
-use Rattle.udf_tree.proofs.ByIndex.{found_stands, member_at, selected_at}
+use Rattle.udf_found.proofs.Beginning.{holder_start}
+use Rattle.udf_kept.proofs.ByIndex.{found_stands, member_at, selected_at}
 use Rattle.udf_tree.proofs.Enrolling.{entry_kept, has_kept, kept_has, kept_parts, starts}
-use Rattle.udf_tree.proofs.Indexing.{held_at}
-use Rattle.udf_tree.proofs.Seeing.{holder_address}
+use Rattle.udf_kept.proofs.Indexing.{held_at}
+use Rattle.udf_found.proofs.Seeing.{holder_address}
 use Rattle.udf_tree.proofs.Surveying.{heads}
 
 -- ---- the first link of place 0

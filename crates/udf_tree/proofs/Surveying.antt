@@ -10,20 +10,20 @@ use Rattle.udf_tree_model.specs.Content.{content_stays, mended_content}
 use Rattle.udf_tree_model.specs.Frame.{Frame, is_holder, setting_of, tree_of}
 use Rattle.udf_tree_model.specs.Kept.{kept}
 use Rattle.udf_tree_model.specs.Node.{node_at}
-use Rattle.udf_tree.specs.declared.contents.MendedContent.{MendedContent}
-use Rattle.udf_tree.specs.declared.entries.Entries.{Entries}
-use Rattle.udf_tree.specs.declared.held.Held.{Held}
-use Rattle.udf_tree.specs.declared.keeping.Keeping.{Keeping}
+use Rattle.udf_contents.specs.declared.contents.MendedContent.{MendedContent}
+use Rattle.udf_kept.specs.declared.entries.Entries.{Entries}
+use Rattle.udf_held.specs.declared.held.Held.{Held}
+use Rattle.udf_kept.specs.declared.keeping.Keeping.{Keeping}
 use Rattle.udf_tree.specs.declared.node.Node.{Node}
-use Rattle.udf_tree.specs.Contents.{AreContents, AreContentsOf, IsContent, IsContentOf}
-use Rattle.udf_tree.specs.Entries.{AreEntries}
-use Rattle.udf_tree.specs.Fitted.{at_of}
-use Rattle.udf_tree.specs.Keeping.{IsKeeping}
+use Rattle.udf_contents.specs.Contents.{AreContents, AreContentsOf, IsContent, IsContentOf}
+use Rattle.udf_kept.specs.Entries.{AreEntries}
+use Rattle.udf_kept.specs.Fitted.{at_of}
+use Rattle.udf_kept.specs.Keeping.{IsKeeping}
 use Rattle.udf_tree.specs.Nodes.{AreNodes, IsNode, node_addresses}
 use Rattle.udf_tree.specs.Survey.{bytes_at, bytes_by, pointed_by, pointed_from, wanted_content}
 use Rattle.udf_tree.proofs.Enrolling.{and_both, is_shaped, kept_parts}
-use Rattle.udf_tree.proofs.Indexing.{held_at, member_of_get}
-use Rattle.udf_tree.proofs.Mending.{keeping_there}
+use Rattle.udf_kept.proofs.Indexing.{held_at, member_of_get}
+use Rattle.udf_contents.proofs.Mending.{keeping_there}
 
 pub heads : {X : Type 0} (x y : X) (xs ys : List X) → x ∷ xs ≡ y ∷ ys → (x ≡ y) × (xs ≡ ys)
 heads x y xs ys e = (cc, cc)

@@ -4,9 +4,9 @@ use Rattle.udf_file_model.specs.Listing.{Volume}
 use Rattle.udf_tree_model.specs.Frame.{Frame}
 use Rattle.udf_tree_model.specs.Refused.{refusal}
 use Rattle.udf_tree_model.specs.Stated.{IsFileSetPlaced}
-use Rattle.udf_tree.specs.declared.entries.Entries.{Entries}
-use Rattle.udf_tree.specs.Beyond.{HoldsFileSet}
-use Rattle.udf_tree.specs.Entries.{AreEntries}
+use Rattle.udf_kept.specs.declared.entries.Entries.{Entries}
+use Rattle.udf_found.specs.Beyond.{HoldsFileSet}
+use Rattle.udf_kept.specs.Entries.{AreEntries}
 
 -- the file set stands at its address, no file is refused, and these are the found entries
 pub record IsAccepted (f : Frame) (v : Volume) (e : Entries) : Type 0 where

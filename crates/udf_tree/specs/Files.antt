@@ -6,10 +6,10 @@ use Rattle.udf_tree_model.specs.Counts.{is_kept_directory}
 use Rattle.udf_tree_model.specs.Frame.{Frame}
 use Rattle.udf_tree_model.specs.Ordinary.{files_named_in}
 use Rattle.udf_tree_model.specs.Parent.{ordinary}
-use Rattle.udf_tree.specs.declared.entries.Entries.{Entries}
-use Rattle.udf_tree.specs.declared.fitted.Fitted.{Fitted}
-use Rattle.udf_tree.specs.declared.held.Held.{Held}
-use Rattle.udf_tree.specs.Stays.{fitted_by}
+use Rattle.udf_kept.specs.declared.entries.Entries.{Entries}
+use Rattle.udf_kept.specs.declared.fitted.Fitted.{Fitted}
+use Rattle.udf_held.specs.declared.held.Held.{Held}
+use Rattle.udf_contents.specs.Stays.{fitted_by}
 
 abbrev pub is_directory_held : Option Held → Bool
 is_directory_held None = false

@@ -13,12 +13,12 @@ use Rattle.udf_tree_model.specs.Link as model
 use Rattle.udf_tree_model.specs.Link.{target_of}
 use Rattle.udf_tree_model.specs.Node.{Setting, Tree, is_entry, node_at}
 use Rattle.udf_tree_model.specs.Won.{kept_links, sound}
-use Rattle.udf_tree.specs.declared.held.Held.{Held}
+use Rattle.udf_held.specs.declared.held.Held.{Held}
 use Rattle.udf_tree.specs.declared.judge.Verdict.{Verdict}
-use Rattle.udf_tree.specs.declared.link.Link.{Link}
-use Rattle.udf_tree.specs.Fitted.{at_of}
-use Rattle.udf_tree.specs.Linked.{earliers}
-use Rattle.udf_tree.specs.Selects.{is_rank_at}
+use Rattle.udf_found.specs.declared.link.Link.{Link}
+use Rattle.udf_kept.specs.Fitted.{at_of}
+use Rattle.udf_found.specs.Linked.{earliers}
+use Rattle.udf_kept.specs.Selects.{is_rank_at}
 
 -- what a link of a holder leads to is sound, and an entry
 unfoldable pub is_sound_target : Setting → Tree → Addr → Bool

@@ -6,10 +6,10 @@ use Rattle.udf_file_model.specs.Listing.{Volume}
 use Rattle.udf_tree_model.specs.Content.{content_holds, kept_content}
 use Rattle.udf_tree_model.specs.Frame.{Frame, setting_of, tree_of}
 use Rattle.udf_tree_model.specs.Parent.{is_stream_directory, parent}
-use Rattle.udf_tree.specs.declared.held.Held.{Held}
+use Rattle.udf_held.specs.declared.held.Held.{Held}
 use Rattle.udf_tree.specs.declared.kept_contents.KeptContent.{KeptContent}
 use Rattle.udf_tree.specs.declared.node.Node.{Node}
-use Rattle.udf_tree.specs.Fitted.{at_of}
+use Rattle.udf_kept.specs.Fitted.{at_of}
 use Rattle.udf_tree.specs.Nodes.{IsNode}
 
 -- how long the content of a directory up to the kept length is, and whether the rule on contents holds for it

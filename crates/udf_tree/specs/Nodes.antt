@@ -15,13 +15,13 @@ use Rattle.udf_tree_model.specs.Parent.{ordinary, parent}
 use Rattle.udf_tree_model.specs.Refused.{refusal}
 use Rattle.udf_tree_model.specs.Stated.{IsFileSetPlaced}
 use Rattle.udf_tree_model.specs.Won.{holds, kept_length}
-use Rattle.udf_tree.specs.declared.entries.Entries.{Entries}
-use Rattle.udf_tree.specs.declared.held.Held.{Held}
-use Rattle.udf_tree.specs.declared.keeping.Keeping.{Keeping}
+use Rattle.udf_kept.specs.declared.entries.Entries.{Entries}
+use Rattle.udf_held.specs.declared.held.Held.{Held}
+use Rattle.udf_kept.specs.declared.keeping.Keeping.{Keeping}
 use Rattle.udf_tree.specs.declared.node.Node.{Node}
 use Rattle.udf_tree.specs.declared.node.NodeId.{NodeId}
-use Rattle.udf_tree.specs.Beyond.{HoldsFileSet}
-use Rattle.udf_tree.specs.Entries.{AreEntries}
+use Rattle.udf_found.specs.Beyond.{HoldsFileSet}
+use Rattle.udf_kept.specs.Entries.{AreEntries}
 
 abbrev pub is_whole_by : Frame → Volume → Addr → Option Entry → Bool
 is_whole_by f v a None = false

@@ -3,13 +3,13 @@ use Rattle.std.specs.Prelude.{◌≡◌, ◌<◌, ◌^◌, ℕ, All, List, Optio
 use Rattle.udf_field.specs.declared.address.Addr.{Addr}
 use Rattle.udf_file_model.specs.Listing.{Volume}
 use Rattle.udf_tree_model.specs.Frame.{Frame}
-use Rattle.udf_tree.specs.declared.counts.Count.{Count}
-use Rattle.udf_tree.specs.declared.entries.Entries.{Entries}
+use Rattle.udf_dues.specs.declared.counts.Count.{Count}
+use Rattle.udf_kept.specs.declared.entries.Entries.{Entries}
 use Rattle.udf_tree.specs.declared.node.Node.{Node}
 use Rattle.udf_tree.specs.declared.node.NodeId.{NodeId}
 use Rattle.udf_tree.specs.declared.notes.Notes.{Notes}
-use Rattle.udf_tree.specs.Counts.{count_in}
-use Rattle.udf_tree.specs.Fitted.{at_of}
+use Rattle.udf_dues.specs.Counts.{count_in}
+use Rattle.udf_kept.specs.Fitted.{at_of}
 use Rattle.udf_tree.specs.KeptContents.{AreKeptContents}
 use Rattle.udf_tree.specs.Judged.{AreJudged, entries_of}
 use Rattle.udf_tree.specs.Nodes.{IsNumbering, node_addresses, numbered}

@@ -4,7 +4,7 @@ use Rattle.std.specs.List.Sorted.{IsStrictlySortedBy}
 use Rattle.udf_field.specs.declared.address.Addr.{Addr}
 use Rattle.udf_tree_model.specs.Among.{Member}
 use Rattle.udf_tree.specs.declared.node.NodeId.{NodeId}
-use Rattle.udf_tree.specs.Order.{addr_cmp}
+use Rattle.udf_found.specs.Order.{addr_cmp}
 
 -- these are the numbers of all addresses, in the order of these
 pub record AreInOrder (numbers : List Addr) (order : List NodeId) : Type 0 where

@@ -13,10 +13,10 @@ use Rattle.udf_tree_model.specs.Link as model
 use Rattle.udf_tree_model.specs.Node.{Setting, Tree}
 use Rattle.udf_tree_model.specs.Parent.{keeping, parent}
 use Rattle.udf_tree_model.specs.Won.{kept_links}
-use Rattle.udf_tree.specs.declared.held.Held.{Held}
-use Rattle.udf_tree.specs.declared.link.Link.{Link}
-use Rattle.udf_tree.specs.Fitted.{at_of}
-use Rattle.udf_tree.specs.Linked.{text_of}
+use Rattle.udf_held.specs.declared.held.Held.{Held}
+use Rattle.udf_found.specs.declared.link.Link.{Link}
+use Rattle.udf_kept.specs.Fitted.{at_of}
+use Rattle.udf_found.specs.Linked.{text_of}
 
 -- the identifier of the first of some links that has a place; nothing where none has it
 abbrev pub text_with : List model.Link → ℕ → List ℕ

@@ -4,8 +4,8 @@ use Rattle.udf_field.specs.declared.address.Addr.{Addr}
 use Rattle.udf_file_model.specs.Entry.{Entry}
 use Rattle.udf_file_model.specs.Listing.{Volume}
 use Rattle.udf_tree_model.specs.Frame.{entry_at, stream_of}
-use Rattle.udf_tree.specs.declared.held.Held.{Held}
-use Rattle.udf_tree.specs.declared.shape.Shape.{Shape}
+use Rattle.udf_held.specs.declared.held.Held.{Held}
+use Rattle.udf_found.specs.declared.shape.Shape.{Shape}
 use Rattle.udf_tree.specs.declared.stated.Stated.{Stated}
 
 abbrev pub nothing_stated : Stated

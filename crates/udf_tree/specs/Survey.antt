@@ -8,15 +8,15 @@ use Rattle.udf_tree_model.specs.Chosen.{fitted}
 use Rattle.udf_tree_model.specs.Frame.{Frame, is_holder, setting_of, tree_of}
 use Rattle.udf_tree_model.specs.Link.{target_of}
 use Rattle.udf_tree_model.specs.Ordinary.{files_named, kept_entries}
-use Rattle.udf_tree.specs.declared.contents.MendedContent.{MendedContent}
-use Rattle.udf_tree.specs.declared.counts.Count.{Count}
+use Rattle.udf_contents.specs.declared.contents.MendedContent.{MendedContent}
+use Rattle.udf_dues.specs.declared.counts.Count.{Count}
 use Rattle.udf_tree.specs.declared.judge.Verdict.{Verdict}
 use Rattle.udf_tree.specs.declared.kept_contents.KeptContent.{KeptContent}
 use Rattle.udf_tree.specs.declared.node.Node.{Node}
 use Rattle.udf_tree.specs.declared.node.NodeId.{NodeId}
 use Rattle.udf_tree.specs.declared.stated.Stated.{Stated}
-use Rattle.udf_tree.specs.After.{TellsTaken}
-use Rattle.udf_tree.specs.Counts.{count_of}
+use Rattle.udf_contents.specs.After.{TellsTaken}
+use Rattle.udf_dues.specs.Counts.{count_of}
 use Rattle.udf_tree.specs.Judged.{judged, judged_links, verdict_in}
 use Rattle.udf_tree.specs.KeptContents.{kept_content_of}
 use Rattle.udf_tree.specs.Path.{step_name}

@@ -10,21 +10,17 @@ ghost use Rattle.udf_file_model.specs.Listing.{Volume, volume_of};
 ghost use Rattle.udf_tree_model.specs.Frame.{Frame};
 ghost use Rattle.udf_tree_model.specs.Stated.{IsFileSetPlaced};
 ghost use Rattle.udf_tree_model.specs.Refused.{refusal};
-ghost use Rattle.udf_tree.specs.Beyond.{HoldsFileSet, IsAnswer};
-ghost use Rattle.udf_tree.specs.Contents.{AreContents};
-ghost use Rattle.udf_tree.specs.Entries.{HasFileSet, RefusesFiles, missing_of};
+ghost use Rattle.udf_found.specs.Beyond.{HoldsFileSet, IsAnswer};
+ghost use Rattle.udf_contents.specs.Contents.{AreContents};
+ghost use Rattle.udf_kept.specs.Entries.{HasFileSet, RefusesFiles, missing_of};
 ghost use Rattle.udf_tree.specs.Accepted.{IsAccepted};
 ghost use Rattle.udf_tree.specs.Survey.{IsSurvey};
 
-use crate::after::claims_after;
-use crate::contents::{MendedContent, mended_contents};
-use crate::counts::counts;
-use crate::dues::Dues;
-use crate::entries::{Entries, survey_entries};
-use crate::entry_identifiers::identifiers;
-use crate::link_counts::link_counts;
 use crate::surveyed::{Survey, survey_of};
 use std::alloc::{AllocError, Global};
+use udf_contents::{MendedContent, claims_after, mended_contents};
+use udf_dues::{Dues, counts_of, identifiers_of, link_counts_of};
+use udf_kept::{Entries, survey_entries};
 use udf_layer::{LayerStop, Parts};
 use udf_outside::Bench;
 use udf_volume::FileSet;
@@ -53,7 +49,7 @@ fn survey_held<P: Parts>(
         kept,
         &contents,
     )?;
-    let counts = counts(
+    let counts = counts_of(
         alloc,
         files.root,
         files.at,
@@ -62,8 +58,8 @@ fn survey_held<P: Parts>(
         kept,
         &contents,
     )?;
-    let links = link_counts(alloc, held, &counts)?;
-    let ids = identifiers(alloc, files.root, held, &entries.ordinary)?;
+    let links = link_counts_of(alloc, held, &counts)?;
+    let ids = identifiers_of(alloc, files.root, held, &entries.ordinary)?;
     let dues = Dues { counts, links, ids };
     survey_of(
         alloc, files.root, files.at, entries, &dues, contents, claims,

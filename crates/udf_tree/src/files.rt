@@ -7,12 +7,11 @@ ghost use Rattle.udf_tree_model.specs.Ordinary.{files_named};
 ghost use Rattle.udf_tree.specs.Files.{files_seen, is_directory_in, is_of_file};
 ghost use Rattle.udf_tree.specs.Nodes.{AreSurveyed};
 
-use crate::contents::fitted_at;
-use crate::entries::Entries;
-use crate::fitted::Fitted;
-use crate::held::Held;
 use crate::nodes::is_ordinary;
 use std::alloc::AllocError;
+use udf_contents::fitted_at;
+use udf_held::Held;
+use udf_kept::{Entries, Fitted};
 
 /// The least place of a FID; a pointer has the place 0.
 const FIRST_FID: u64 = 1;

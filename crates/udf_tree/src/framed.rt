@@ -6,8 +6,8 @@ ghost use Rattle.udf_tree_model.specs.Stated.{IsFileSetPlaced};
 ghost use Rattle.udf_volume_model.specs.FileSet.{Site, refusal};
 ghost use Rattle.udf_volume.specs.declared.site.FileSet.{FileSet};
 ghost use Rattle.udf_volume.specs.FileSet.{IsFileSet};
-ghost use Rattle.udf_tree.specs.Beyond.{HoldsFileSet};
-ghost use Rattle.udf_tree.specs.Entries.{HasFileSet};
+ghost use Rattle.udf_found.specs.Beyond.{HoldsFileSet};
+ghost use Rattle.udf_kept.specs.Entries.{HasFileSet};
 ghost use Rattle.udf_tree.specs.Framed.{frame_of};
 
 /// What a survey asks of its frame holds where the file set of a volume was read: the frame is that of the file set, which stands

@@ -9,24 +9,21 @@ ghost use Rattle.udf_file_model.specs.Listing.{Volume};
 ghost use Rattle.udf_tree_model.specs.Chosen.{chosen_link};
 ghost use Rattle.udf_tree_model.specs.Frame.{Frame, setting_of, tree_of};
 ghost use Rattle.udf_tree_model.specs.Found.{found};
-ghost use Rattle.udf_tree.specs.Fitted.{IsChoice};
-ghost use Rattle.udf_tree.specs.Held.{IsHeld, IsHeldOf};
-ghost use Rattle.udf_tree.specs.Indexed.{IsIndex};
+ghost use Rattle.udf_kept.specs.Fitted.{IsChoice};
+ghost use Rattle.udf_held.specs.Held.{IsHeld, IsHeldOf};
+ghost use Rattle.udf_kept.specs.Indexed.{IsIndex};
 ghost use Rattle.udf_tree.specs.Judged.{AreJudged, IsJudged, entries_of, is_lawful_target, judged_by, verdict_by};
 ghost use Rattle.udf_tree.specs.Nodes.{AreSurveyed};
-ghost use Rattle.udf_tree.specs.Order.{addr_cmp};
-ghost use Rattle.udf_tree.specs.Stays.{Tells};
+ghost use Rattle.udf_found.specs.Order.{addr_cmp};
+ghost use Rattle.udf_contents.specs.Stays.{Tells};
 
-use crate::entries::Entries;
-use crate::fitted::{Choice, Selected};
-use crate::held::Held;
-use crate::link::Link;
-use crate::parent::is_link;
-use crate::positions::{Positions, positions_of};
-use crate::stays::{chosen_at, is_sound_entry};
 use std::alloc::{AllocError, Global};
 use std::collections::BTreeMap;
+use udf_contents::{chosen_at, is_link, is_sound_entry};
 use udf_field::Addr;
+use udf_found::Link;
+use udf_held::Held;
+use udf_kept::{Choice, Entries, Positions, Selected, positions_of};
 
 /// What is judged of a link of a kept entry: of its pointer, or of a live FID.
 #[derive(Clone, Copy, Debug, PartialEq, Eq)]

@@ -4,21 +4,18 @@ ghost use Rattle.udf_field.specs.declared.address.Addr.{Addr};
 ghost use Rattle.udf_file_model.specs.Listing.{Volume};
 ghost use Rattle.udf_tree_model.specs.Frame.{Frame, setting_of, tree_of};
 ghost use Rattle.udf_tree_model.specs.Laws.{HasSoundStarts};
-ghost use Rattle.udf_tree.specs.Fitted.{IsSelected};
-ghost use Rattle.udf_tree.specs.Held.{IsHeld, IsHeldOf};
-ghost use Rattle.udf_tree.specs.Keeping.{IsKeptBy};
+ghost use Rattle.udf_kept.specs.Fitted.{IsSelected};
+ghost use Rattle.udf_held.specs.Held.{IsHeld, IsHeldOf};
+ghost use Rattle.udf_kept.specs.Keeping.{IsKeptBy};
 ghost use Rattle.udf_tree.specs.KeptContents.{AreKeptContents, IsKeptContent, content_held};
 ghost use Rattle.udf_tree.specs.Nodes.{AreSurveyed};
 
-use crate::entries::Entries;
-use crate::fitted::Selected;
-use crate::held::Held;
-use crate::keeping::Keeping;
 use crate::numbers::keeping_at;
-use crate::parent::{is_stream_directory, parent_of};
-use crate::stays::parents_stay;
 use std::alloc::{AllocError, Global};
+use udf_contents::{is_stream_directory, parent_of, parents_stay};
 use udf_field::Addr;
+use udf_held::Held;
+use udf_kept::{Entries, Keeping, Selected};
 
 /// The content of a kept directory up to the kept length.
 #[derive(Clone, Copy, Debug, PartialEq, Eq)]

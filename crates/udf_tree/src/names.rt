@@ -5,17 +5,16 @@ ghost use Rattle.std.specs.Ordering.{nat_cmp};
 ghost use Rattle.udf_field.specs.declared.address.Addr.{Addr};
 ghost use Rattle.udf_file_model.specs.Listing.{Volume};
 ghost use Rattle.udf_tree_model.specs.Frame.{Frame};
-ghost use Rattle.udf_tree.specs.declared.held.Held.{Held};
+ghost use Rattle.udf_held.specs.declared.held.Held.{Held};
 ghost use Rattle.udf_tree.specs.Nodes.{AreSurveyed};
 ghost use Rattle.udf_tree.specs.Path.{AreNamed, HaveIndexes, IsNamed, texts_of, index_by, name_by, name_in};
 
-use crate::entries::Entries;
-use crate::fitted::Choice;
-use crate::held::Held;
-use crate::link::Link;
 use crate::numbers::keeping_at;
 use std::alloc::{AllocError, Global};
 use std::collections::BTreeMap;
+use udf_found::Link;
+use udf_held::Held;
+use udf_kept::{Choice, Entries};
 
 // The indexes of links by their places.
 type LinkIndexes = BTreeMap<u64, usize>;

@@ -4,18 +4,18 @@ ghost use Rattle.std.specs.BTreeMap.{get};
 ghost use Rattle.udf_file_model.specs.Listing.{Volume};
 ghost use Rattle.udf_tree_model.specs.Frame.{Frame, setting_of, tree_of};
 ghost use Rattle.udf_tree_model.specs.Parent.{parent};
-ghost use Rattle.udf_tree.specs.Keeping.{IsKeptBy};
+ghost use Rattle.udf_kept.specs.Keeping.{IsKeptBy};
 ghost use Rattle.udf_tree.specs.Nodes.{AreNodes, AreSurveyed, IsNode, IsNumbering, node_address, node_addresses, numbered, numbered_at};
-ghost use Rattle.udf_tree.specs.Order.{addr_cmp};
+ghost use Rattle.udf_found.specs.Order.{addr_cmp};
 
-use crate::entries::Entries;
-use crate::held::Held;
 use crate::node::Node;
 use crate::numbers::{Numbers, keeping_at, number_of};
-use crate::parent::parent_of;
-use crate::shape::Shape;
 use std::alloc::{AllocError, Global};
+use udf_contents::parent_of;
 use udf_field::Addr;
+use udf_found::Shape;
+use udf_held::Held;
+use udf_kept::Entries;
 
 // Whether nothing of the list of an entry of a shape fails, and it wins all of it.
 fn is_whole(entry: &Held, shape: &Shape) -> bool

@@ -3,14 +3,11 @@ ghost use Rattle.std.specs.Prelude.{◌≡◌, ◌<◌, ℕ, List, Some, IfOk, l
 ghost use Rattle.std.specs.BTreeMap.{get};
 ghost use Rattle.udf_file_model.specs.Listing.{Volume};
 ghost use Rattle.udf_tree_model.specs.Frame.{Frame};
-ghost use Rattle.udf_tree.specs.Fitted.{at_of};
+ghost use Rattle.udf_kept.specs.Fitted.{at_of};
 ghost use Rattle.udf_tree.specs.Nodes.{AreSurveyed, IsNumbering, numbered};
 ghost use Rattle.udf_tree.specs.Notes.{AreAsMany, AreNotes};
-ghost use Rattle.udf_tree.specs.Order.{addr_cmp};
+ghost use Rattle.udf_found.specs.Order.{addr_cmp};
 
-use crate::counts::{Count, counts_at};
-use crate::dues::Dues;
-use crate::entries::Entries;
 use crate::judge::{Verdicts, judge_all};
 use crate::kept_contents::{KeptContent, contents_at};
 use crate::names::names_of;
@@ -19,7 +16,9 @@ use crate::numbers::Numbers;
 use crate::pointers::pointers_of;
 use crate::stated::{Stated, stated_of};
 use std::alloc::{AllocError, Global};
+use udf_dues::{Count, Dues, counts_at};
 use udf_field::Addr;
+use udf_kept::Entries;
 
 /// What is told of each kept entry beside its node, by their numbers.
 #[derive(Drop)]

@@ -2,18 +2,18 @@
 ghost use Rattle.std.specs.Prelude.{◌≡◌, ◌<◌, ◌^◌, None, Some, IfOk, List, get_or, length, map};
 ghost use Rattle.std.specs.BTreeMap.{get};
 ghost use Rattle.udf_field.specs.declared.address.Addr.{Addr};
-ghost use Rattle.udf_tree.specs.Fitted.{at_of};
+ghost use Rattle.udf_kept.specs.Fitted.{at_of};
 ghost use Rattle.udf_tree.specs.declared.node.NodeId.{NodeId};
 ghost use Rattle.udf_tree.specs.Nodes.{IsNumbering, is_numbered, numbered};
-ghost use Rattle.udf_tree.specs.Order.{addr_cmp};
+ghost use Rattle.udf_found.specs.Order.{addr_cmp};
 ghost use Rattle.udf_tree.specs.Ordered.{AreInOrder};
 
-use crate::held::Held;
-use crate::keeping::Keeping;
 use crate::node::NodeId;
 use std::alloc::{AllocError, Global};
 use std::collections::BTreeMap;
 use udf_field::Addr;
+use udf_held::Held;
+use udf_kept::Keeping;
 
 /// The numbers of kept entries by their addresses.
 pub(crate) type Numbers = BTreeMap<Addr, NodeId>;

@@ -6,19 +6,18 @@ ghost use Rattle.udf_file_model.specs.Listing.{Volume};
 ghost use Rattle.udf_tree_model.specs.Among.{Member};
 ghost use Rattle.udf_tree_model.specs.Frame.{Frame, setting_of, tree_of};
 ghost use Rattle.udf_tree_model.specs.Kept.{kept};
-ghost use Rattle.udf_tree.specs.declared.held.Held.{Held};
-ghost use Rattle.udf_tree.specs.Fitted.{at_of};
+ghost use Rattle.udf_held.specs.declared.held.Held.{Held};
+ghost use Rattle.udf_kept.specs.Fitted.{at_of};
 ghost use Rattle.udf_tree.specs.Nodes.{AreSurveyed, IsNumbering, numbered};
-ghost use Rattle.udf_tree.specs.Order.{addr_cmp};
+ghost use Rattle.udf_found.specs.Order.{addr_cmp};
 ghost use Rattle.udf_tree.specs.Survey.{named_by, pointed_by, system_from};
 
-use crate::contents::fitted_at;
-use crate::entries::Entries;
-use crate::fitted::Fitted;
-use crate::held::Held;
 use crate::node::NodeId;
 use crate::numbers::Numbers;
 use std::alloc::{AllocError, Global};
+use udf_contents::fitted_at;
+use udf_held::Held;
+use udf_kept::{Entries, Fitted};
 
 // A pointer has the place 0.
 const POINTER: u64 = 0;

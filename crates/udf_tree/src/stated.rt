@@ -3,10 +3,10 @@ ghost use Rattle.std.specs.Prelude.{◌≡◌, IfOk, map};
 ghost use Rattle.udf_tree_model.specs.Frame.{stream_of};
 ghost use Rattle.udf_tree.specs.Stated.{stated_in, stated_shaped};
 
-use crate::held::Held;
-use crate::shape::Shape;
 use std::alloc::{AllocError, Global};
 use udf_field::{Addr, Long};
+use udf_found::Shape;
+use udf_held::Held;
 
 /// What an entry states of itself.
 #[derive(Clone, Copy, Debug, PartialEq, Eq)]

@@ -7,19 +7,15 @@ ghost use Rattle.udf_field.specs.declared.address.Addr.{Addr};
 ghost use Rattle.udf_file_model.specs.Address.{same_addr};
 ghost use Rattle.udf_file_model.specs.Listing.{Volume};
 ghost use Rattle.udf_tree_model.specs.Frame.{Frame};
-ghost use Rattle.udf_tree.specs.After.{TellsTaken};
-ghost use Rattle.udf_tree.specs.Contents.{AreContents};
-ghost use Rattle.udf_tree.specs.Counts.{AreCounts};
+ghost use Rattle.udf_contents.specs.After.{TellsTaken};
+ghost use Rattle.udf_contents.specs.Contents.{AreContents};
+ghost use Rattle.udf_dues.specs.Counts.{AreCounts};
 ghost use Rattle.udf_tree.specs.Judged.{verdict_in};
 ghost use Rattle.udf_tree.specs.Nodes.{AreSurveyed, node_addresses};
-ghost use Rattle.udf_tree.specs.Order.{addr_cmp};
+ghost use Rattle.udf_found.specs.Order.{addr_cmp};
 ghost use Rattle.udf_tree.specs.Path.{IsPath};
 ghost use Rattle.udf_tree.specs.Survey.{IsSurvey, bytes_at};
 
-use crate::contents::MendedContent;
-use crate::counts::Count;
-use crate::dues::Dues;
-use crate::entries::Entries;
 use crate::files::files_of;
 use crate::judge::Verdict;
 use crate::kept_contents::KeptContent;
@@ -34,7 +30,10 @@ use std::alloc::{AllocError, Global};
 use std::collections::BTreeMap;
 use std::marker::Model;
 use udf_claims::{Claimed, Claims};
+use udf_contents::MendedContent;
+use udf_dues::{Count, Dues};
 use udf_field::Addr;
+use udf_kept::Entries;
 
 /// What is kept of a volume's files, and what the mend makes of it.
 #[derive(Drop)]
@@ -60,7 +59,7 @@ impl Model for Survey {
     ghost use Rattle.std.specs.Prelude.{map};
     ghost use Rattle.std.specs.BTreeMap.{get};
     ghost use Rattle.udf_tree.specs.Judged.{entries_of};
-    ghost use Rattle.udf_tree.specs.Order.{addr_cmp};
+    ghost use Rattle.udf_found.specs.Order.{addr_cmp};
     ghost use Rattle.udf_tree.specs.Path.{texts_of};
     ghost use Rattle.udf_tree.specs.Notes.{AreIndexed};
     ghost use Rattle.udf_tree.specs.Survey.{View, bytes_at};

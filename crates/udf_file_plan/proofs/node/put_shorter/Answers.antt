@@ -10,7 +10,7 @@ use Rattle.udf_file_model.specs.Listing.{Listing, list_for, listing_at}
 use Rattle.udf_field.specs.declared.address.Addr.{Addr}
 use Rattle.udf_file_model.specs.Descriptors.{Descriptor}
 use Rattle.udf_file_model.specs.Pieces.{extents_of, runs_of}
-use Rattle.udf_tree.proofs.Told.{listed_there}
+use Rattle.udf_found.proofs.Told.{listed_there}
 use Rattle.udf_file_plan.specs.Base.{PutsOf, listed}
 use Rattle.udf_file_plan.specs.Node.{cut_left, given_by}
 use Rattle.udf_file_plan.specs.Node as node

@@ -10,8 +10,8 @@ use Rattle.udf_volume_model.specs.Areas.{table_or_none}
 use Rattle.udf_tree_model.specs.Refused.{refusal}
 use Rattle.udf_tree_model.proofs.Stating.{accepted_starts}
 use Rattle.udf_tree_model.specs.Stated.{IsFileSetPlaced}
-use Rattle.udf_tree.specs.Beyond.{HoldsFileSet, IsAnswer}
-use Rattle.udf_tree.specs.Entries.{missing_of}
+use Rattle.udf_found.specs.Beyond.{HoldsFileSet, IsAnswer}
+use Rattle.udf_kept.specs.Entries.{missing_of}
 use Rattle.udf_tree.specs.Survey.{IsSurvey, View}
 use Rattle.udf_rules_model.specs.Files.{files_in, frame_in, places_of, site_in}
 use Rattle.udf_files.specs.Files.{FindsFiles}

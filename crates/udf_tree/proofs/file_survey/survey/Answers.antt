@@ -6,15 +6,15 @@ use Rattle.udf_tree_model.specs.Frame.{setting_of, tree_of}
 use Rattle.udf_tree_model.specs.Laws.{HasSoundStarts}
 use Rattle.udf_tree_model.specs.Refused.{refusal}
 use Rattle.udf_tree_model.proofs.Stating.{accepted_starts}
-use Rattle.udf_tree.specs.declared.fitted.Selected.{Selected}
-use Rattle.udf_tree.specs.declared.held.Held.{Held}
-use Rattle.udf_tree.specs.declared.keeping.Keeping.{Keeping}
+use Rattle.udf_kept.specs.declared.fitted.Selected.{Selected}
+use Rattle.udf_held.specs.declared.held.Held.{Held}
+use Rattle.udf_kept.specs.declared.keeping.Keeping.{Keeping}
 use Rattle.udf_tree.specs.Accepted.{IsAccepted}
-use Rattle.udf_tree.specs.Contents.{AreContents}
-use Rattle.udf_tree.specs.Fitted.{AreSelected}
-use Rattle.udf_tree.specs.Held.{AreHeldOf}
-use Rattle.udf_tree.specs.Keeping.{AreKept}
-use Rattle.udf_tree.proofs.Rooting.{none_missing}
+use Rattle.udf_contents.specs.Contents.{AreContents}
+use Rattle.udf_kept.specs.Fitted.{AreSelected}
+use Rattle.udf_held.specs.Held.{AreHeldOf}
+use Rattle.udf_kept.specs.Keeping.{AreKept}
+use Rattle.udf_kept.proofs.Rooting.{none_missing}
 use Rattle.udf_tree.proofs.file_survey.survey.Goals as goal
 
 pub returns-clause-survey : goal.returns-clause-survey

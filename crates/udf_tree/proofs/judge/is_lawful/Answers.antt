@@ -2,8 +2,8 @@ use Rattle.std.proofs.Common.{◌≡◌, true, false, rules, sym, ap, ◌∙◌}
 use Rattle.std.specs.Prelude.{is_some}
 use Rattle.udf_tree_model.specs.Chosen.{chosen_link}
 use Rattle.udf_tree_model.specs.Frame.{setting_of, tree_of}
-use Rattle.udf_tree.specs.Selects.{is_rank_at}
-use Rattle.udf_tree.proofs.Hanging.{link_is}
+use Rattle.udf_kept.specs.Selects.{is_rank_at}
+use Rattle.udf_kept.proofs.Hanging.{link_is}
 use Rattle.udf_tree.proofs.Judging.{lawful_chosen, lawful_file, lawful_shapeless, lawful_start, lawful_unsound}
 use Rattle.udf_tree.proofs.judge.is_lawful.Goals as goal
 

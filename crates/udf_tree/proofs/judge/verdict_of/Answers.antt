@@ -1,12 +1,12 @@
 use Rattle.std.proofs.Common.{◌<◌, sym, ap, ◌∙◌, rules, length}
 use Rattle.std.specs.BTreeMap.{get}
 use Rattle.udf_tree_model.specs.Frame.{setting_of, tree_of}
-use Rattle.udf_tree.specs.declared.held.Held.{Held}
+use Rattle.udf_held.specs.declared.held.Held.{Held}
 use Rattle.udf_tree.specs.Judged.{is_lawful_target, is_sound_target}
-use Rattle.udf_tree.specs.Order.{addr_cmp}
-use Rattle.udf_tree.proofs.Indexing.{member_of_get, within}
+use Rattle.udf_found.specs.Order.{addr_cmp}
+use Rattle.udf_kept.proofs.Indexing.{member_of_get, within}
 use Rattle.udf_tree.proofs.Judging.{found_there, lawful_lost, same_verdict, sound_lost, sound_target}
-use Rattle.udf_tree.proofs.Staying.{choice_at, target_there}
+use Rattle.udf_contents.proofs.Staying.{choice_at, target_there}
 use Rattle.udf_tree.proofs.judge.verdict_of.Goals as goal
 
 pub returns-in_default : goal.returns-in_default

@@ -1,9 +1,9 @@
 use Rattle.std.proofs.Common.{List, length, arith, sym, ◌<◌, subst}
-use Rattle.udf_tree.specs.declared.fitted.Selected.{Selected}
-use Rattle.udf_tree.specs.declared.held.Held.{Held}
-use Rattle.udf_tree.specs.Stays.{Tells}
+use Rattle.udf_kept.specs.declared.fitted.Selected.{Selected}
+use Rattle.udf_held.specs.declared.held.Held.{Held}
+use Rattle.udf_contents.specs.Stays.{Tells}
 use Rattle.udf_tree.proofs.Judging.{judged_there, surveyed_tells}
-use Rattle.udf_tree.proofs.Mending.{got}
+use Rattle.udf_contents.proofs.Mending.{got}
 use Rattle.udf_tree.proofs.judge.verdicts_at.Goals as goal
 
 pub returns : goal.returns

@@ -2,7 +2,7 @@ use Rattle.std.proofs.Common.{◌≡◌, ℕ, List, ◌∷◌, [], arith, length
 use Rattle.std.proofs.lemmas.List.{length-append, take_all}
 use Rattle.udf_tree.specs.Judged.{AreJudged, entries_of}
 use Rattle.udf_tree.proofs.Judging.{judged_more}
-use Rattle.udf_tree.proofs.Elements.{read_at}
+use Rattle.udf_dues.proofs.Elements.{read_at}
 use Rattle.udf_tree.proofs.judge.verdicts_by.Goals as goal
 
 pub loop-index-preserved : goal.loop-index-preserved

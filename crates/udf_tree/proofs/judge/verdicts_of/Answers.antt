@@ -2,7 +2,7 @@ use Rattle.std.proofs.Common.{◌≡◌, ◌<◌, List, length, get_or, sym, ap,
 use Rattle.std.specs.BTreeMap.{get}
 use Rattle.std.specs.Ordering.{nat_cmp}
 use Rattle.udf_tree_model.specs.Frame.{setting_of, tree_of}
-use Rattle.udf_tree.specs.declared.link.Link.{Link}
+use Rattle.udf_found.specs.declared.link.Link.{Link}
 use Rattle.udf_tree.proofs.Judging.{verdict_known, verdict_put}
 use Rattle.udf_tree.proofs.judge.verdicts_of.Goals as goal
 

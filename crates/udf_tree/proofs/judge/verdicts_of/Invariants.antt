@@ -6,7 +6,7 @@ use Rattle.std.specs.Ordering.{nat_cmp}
 use Rattle.udf_file_model.specs.Listing.{Volume}
 use Rattle.udf_tree_model.specs.Frame.{Frame, setting_of, tree_of}
 use Rattle.udf_tree.specs.Judged.{judged_by}
-use Rattle.udf_tree.specs.Stays.{Tells}
+use Rattle.udf_contents.specs.Stays.{Tells}
 use Rattle.udf_tree.proofs.judge.verdicts_of.Given as goal
 
 abbrev pub invariant-loop-link : goal.invariant-loop-link

@@ -2,15 +2,15 @@ use Rattle.std.proofs.Common.{◌≡◌, ◌<◌, ◌≤◌, List, Option, Some,
 use Rattle.std.specs.Prelude.{slice_get}
 use Rattle.std.proofs.lemmas.Option.{same_Some}
 use Rattle.udf_tree_model.specs.Frame.{setting_of, tree_of}
-use Rattle.udf_tree.specs.declared.fitted.Selected.{Selected}
-use Rattle.udf_tree.specs.declared.held.Held.{Held}
-use Rattle.udf_tree.specs.declared.keeping.Keeping.{Keeping}
-use Rattle.udf_tree.specs.Fitted.{IsSelected}
-use Rattle.udf_tree.proofs.ByIndex.{selected_at}
+use Rattle.udf_kept.specs.declared.fitted.Selected.{Selected}
+use Rattle.udf_held.specs.declared.held.Held.{Held}
+use Rattle.udf_kept.specs.declared.keeping.Keeping.{Keeping}
+use Rattle.udf_kept.specs.Fitted.{IsSelected}
+use Rattle.udf_kept.proofs.ByIndex.{selected_at}
 use Rattle.udf_tree.proofs.Enrolling.{starts}
-use Rattle.udf_tree.proofs.Indexing.{member_of_get}
+use Rattle.udf_kept.proofs.Indexing.{member_of_get}
 use Rattle.udf_tree.proofs.Measuring.{content_found, content_lost, kept_by_it, nothing_there, selected_long}
-use Rattle.udf_tree.proofs.Mending.{got}
+use Rattle.udf_contents.proofs.Mending.{got}
 use Rattle.udf_tree.proofs.kept_contents.content_at.Goals as goal
 
 pub returns-in_default : goal.returns-in_default

@@ -1,8 +1,8 @@
 use Rattle.std.proofs.Common.{◌≡◌, List, false, rules, sym, subst}
 use Rattle.std.specs.Prelude.{is_some}
 use Rattle.udf_tree_model.specs.Frame.{setting_of, tree_of}
-use Rattle.udf_tree.specs.declared.held.Held.{Held}
-use Rattle.udf_tree.specs.Keeping.{IsKeptBy}
+use Rattle.udf_held.specs.declared.held.Held.{Held}
+use Rattle.udf_kept.specs.Keeping.{IsKeptBy}
 use Rattle.udf_tree.proofs.Measuring.{content_there, no_content, no_directory}
 use Rattle.udf_tree.proofs.kept_contents.content_of.Goals as goal
 

@@ -2,7 +2,7 @@ use Rattle.std.proofs.Common.{◌≡◌, ℕ, List, ◌∷◌, [], arith, length
 use Rattle.std.proofs.lemmas.List.{length-append, take_all}
 use Rattle.udf_tree.specs.KeptContents.{AreKeptContents}
 use Rattle.udf_tree.proofs.Measuring.{content_more}
-use Rattle.udf_tree.proofs.Elements.{read_at}
+use Rattle.udf_dues.proofs.Elements.{read_at}
 use Rattle.udf_tree.proofs.kept_contents.contents_at.Goals as goal
 
 pub loop-index-preserved : goal.loop-index-preserved

@@ -1,7 +1,7 @@
 use Rattle.std.proofs.Common.{ℕ, ◌≡◌, ap, ◌∙◌, List}
 use Rattle.std.specs.BTreeMap.{get}
 use Rattle.std.specs.Ordering.{nat_cmp}
-use Rattle.udf_tree.specs.declared.link.Link.{Link}
+use Rattle.udf_found.specs.declared.link.Link.{Link}
 use Rattle.udf_tree.specs.Path.{index_by}
 use Rattle.udf_tree.proofs.Stepping.{indexes_more}
 use Rattle.udf_tree.proofs.names.all_link_indexes.Goals as goal

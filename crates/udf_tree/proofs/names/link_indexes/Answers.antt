@@ -2,7 +2,7 @@ use Rattle.std.proofs.Common.{sym, ◌∙◌, ap, List}
 use Rattle.std.proofs.lemmas.List.{take_all}
 use Rattle.std.specs.BTreeMap.{get}
 use Rattle.std.specs.Ordering.{nat_cmp}
-use Rattle.udf_tree.specs.declared.link.Link.{Link}
+use Rattle.udf_found.specs.declared.link.Link.{Link}
 use Rattle.udf_tree.specs.Path.{index_by}
 use Rattle.udf_tree.proofs.Stepping.{index_known, index_put}
 use Rattle.udf_tree.proofs.names.link_indexes.Goals as goal

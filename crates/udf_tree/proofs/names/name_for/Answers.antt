@@ -1,7 +1,7 @@
 use Rattle.std.proofs.Common.{◌≡◌, ℕ, List, Option, Some, None, get_or, sym, ap, ◌∙◌, subst}
 use Rattle.std.specs.Prelude.{slice_get}
-use Rattle.udf_tree.specs.declared.held.Held.{Held}
-use Rattle.udf_tree.specs.declared.keeping.Keeping.{Keeping}
+use Rattle.udf_held.specs.declared.held.Held.{Held}
+use Rattle.udf_kept.specs.declared.keeping.Keeping.{Keeping}
 use Rattle.udf_tree.specs.Path.{HaveIndexes, IsNamed}
 use Rattle.udf_tree.proofs.Stepping.{named_by_link, named_lost, named_start}
 use Rattle.udf_tree.proofs.names.name_for.Goals as goal

@@ -1,10 +1,10 @@
 use Rattle.std.proofs.Common.{◌≡◌, ◌<◌, List, arith, length, sym, ap, ◌∙◌}
 use Rattle.std.specs.Prelude.{slice_get}
 use Rattle.std.proofs.lemmas.Option.{same_Some}
-use Rattle.udf_tree.specs.declared.held.Held.{Held}
-use Rattle.udf_tree.specs.declared.link.Link.{Link}
+use Rattle.udf_held.specs.declared.held.Held.{Held}
+use Rattle.udf_found.specs.declared.link.Link.{Link}
 use Rattle.udf_tree.specs.Path.{name_in}
-use Rattle.udf_tree.proofs.Mending.{got}
+use Rattle.udf_contents.proofs.Mending.{got}
 use Rattle.udf_tree.proofs.Stepping.{name_known, name_lost, name_past}
 use Rattle.udf_tree.proofs.names.name_of.Goals as goal
 

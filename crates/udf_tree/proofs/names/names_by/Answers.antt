@@ -1,7 +1,7 @@
 use Rattle.std.proofs.Common.{◌≡◌, ℕ, List, ◌∷◌, [], arith, length, get_or, ap, subst}
 use Rattle.std.proofs.lemmas.List.{length-append, take_all}
 use Rattle.udf_tree.specs.Path.{AreNamed, texts_of}
-use Rattle.udf_tree.proofs.Elements.{read_at}
+use Rattle.udf_dues.proofs.Elements.{read_at}
 use Rattle.udf_tree.proofs.Stepping.{named_more}
 use Rattle.udf_tree.proofs.names.names_by.Goals as goal
 

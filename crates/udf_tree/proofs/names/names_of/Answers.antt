@@ -1,6 +1,6 @@
 use Rattle.std.proofs.Common.{ℕ, List, sym, subst}
 use Rattle.std.specs.BTreeMap.{BTreeMap}
-use Rattle.udf_tree.specs.declared.held.Held.{Held}
+use Rattle.udf_held.specs.declared.held.Held.{Held}
 use Rattle.udf_tree.specs.Path.{HaveIndexes}
 use Rattle.udf_tree.proofs.names.names_of.Goals as goal
 

@@ -1,10 +1,10 @@
 use Rattle.std.proofs.Common.{List, Bool, false, Option, None, get_or, refl, sym, ap, ◌∙◌, subst}
 use Rattle.std.specs.BTreeMap.{get}
 use Rattle.udf_tree_model.specs.Frame.{setting_of, tree_of}
-use Rattle.udf_tree.specs.declared.held.Held.{Held}
-use Rattle.udf_tree.specs.declared.keeping.Keeping.{Keeping}
-use Rattle.udf_tree.specs.Keeping.{IsKeptBy}
-use Rattle.udf_tree.specs.Order.{addr_cmp}
+use Rattle.udf_held.specs.declared.held.Held.{Held}
+use Rattle.udf_kept.specs.declared.keeping.Keeping.{Keeping}
+use Rattle.udf_kept.specs.Keeping.{IsKeptBy}
+use Rattle.udf_found.specs.Order.{addr_cmp}
 use Rattle.udf_tree.proofs.Enrolling.{kept_by, node_is}
 use Rattle.udf_tree.proofs.nodes.node_at.Goals as goal
 

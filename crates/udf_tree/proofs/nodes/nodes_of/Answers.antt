@@ -1,8 +1,8 @@
 use Rattle.std.proofs.Common.{◌≡◌, ◌<◌, ◌≤◌, List, None, length, get_or, refl, ap, ◌∙◌, subst}
-use Rattle.udf_tree.specs.declared.held.Held.{Held}
+use Rattle.udf_held.specs.declared.held.Held.{Held}
 use Rattle.udf_tree.specs.Nodes.{IsNode, node_addresses, numbered}
 use Rattle.udf_tree.proofs.Enrolling.{nodes_are, numbered_some, put_addresses, put_each}
-use Rattle.udf_tree.proofs.Mending.{got}
+use Rattle.udf_contents.proofs.Mending.{got}
 use Rattle.udf_tree.proofs.Naming.{numbered_over, numbered_put}
 use Rattle.udf_tree.proofs.nodes.nodes_of.Goals as goal
 

@@ -1,9 +1,9 @@
 use Rattle.std.proofs.Common.{List, map, ap, ◌∙◌}
 use Rattle.std.specs.Prelude.{length}
 use Rattle.std.proofs.lemmas.List.{length-map}
-use Rattle.udf_tree.specs.declared.counts.Count.{Count}
-use Rattle.udf_tree.specs.declared.held.Held.{Held}
-use Rattle.udf_tree.specs.Counts.{count_in}
+use Rattle.udf_dues.specs.declared.counts.Count.{Count}
+use Rattle.udf_held.specs.declared.held.Held.{Held}
+use Rattle.udf_dues.specs.Counts.{count_in}
 use Rattle.udf_tree.specs.Stated.{stated_in}
 use Rattle.udf_tree.proofs.notes.notes_of.Goals as goal
 

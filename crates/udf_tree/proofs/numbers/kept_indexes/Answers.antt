@@ -1,5 +1,5 @@
 use Rattle.std.proofs.Common.{◌≡◌, true, Some, map, rules}
-use Rattle.udf_tree.specs.Fitted.{at_of}
+use Rattle.udf_kept.specs.Fitted.{at_of}
 use Rattle.udf_tree.specs.Nodes.{is_numbered, numbered}
 use Rattle.udf_tree.proofs.Naming.{indexes_over, indexes_put}
 use Rattle.udf_tree.proofs.numbers.kept_indexes.Goals as goal

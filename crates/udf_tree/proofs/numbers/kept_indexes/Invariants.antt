@@ -1,5 +1,5 @@
 use Rattle.std.proofs.Common.{◌≡◌, ◌++◌, drop, map, Some}
-use Rattle.udf_tree.specs.Fitted.{at_of}
+use Rattle.udf_kept.specs.Fitted.{at_of}
 use Rattle.udf_tree.specs.Nodes.{numbered}
 use Rattle.udf_tree.proofs.numbers.kept_indexes.Given as goal
 

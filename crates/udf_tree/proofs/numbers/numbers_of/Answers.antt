@@ -3,8 +3,8 @@ use Rattle.std.specs.BTreeMap.{get}
 use Rattle.std.specs.Prelude.{get_or}
 use Rattle.udf_field.specs.declared.address.Addr.{Addr}
 use Rattle.udf_file_model.specs.Address.{addr}
-use Rattle.udf_tree.specs.Order.{addr_cmp}
-use Rattle.udf_tree.proofs.Elements.{read_at}
+use Rattle.udf_found.specs.Order.{addr_cmp}
+use Rattle.udf_dues.proofs.Elements.{read_at}
 use Rattle.udf_tree.proofs.Naming.{numbering_next}
 use Rattle.udf_tree.proofs.numbers.numbers_of.Goals as goal
 

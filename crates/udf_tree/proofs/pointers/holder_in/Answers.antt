@@ -2,8 +2,8 @@ use Rattle.std.proofs.Common.{◌≡◌, false, true, List, rules, sym, subst}
 use Rattle.std.specs.Prelude.{is_some}
 use Rattle.std.proofs.lemmas.List.{take_all}
 use Rattle.udf_tree_model.specs.Among.{Member}
-use Rattle.udf_tree.specs.declared.held.Held.{Held}
-use Rattle.udf_tree.proofs.Mending.{got}
+use Rattle.udf_held.specs.declared.held.Held.{Held}
+use Rattle.udf_contents.proofs.Mending.{got}
 use Rattle.udf_tree.proofs.Streaming.{none_by, none_more}
 use Rattle.udf_tree.proofs.pointers.holder_in.Goals as goal
 

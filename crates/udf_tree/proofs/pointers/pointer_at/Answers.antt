@@ -1,11 +1,11 @@
 use Rattle.std.proofs.Common.{List, sym, ap, ◌∙◌}
 use Rattle.std.specs.Prelude.{slice_get}
 use Rattle.std.specs.BTreeMap.{get}
-use Rattle.udf_tree.specs.declared.fitted.Selected.{Selected}
-use Rattle.udf_tree.specs.declared.held.Held.{Held}
-use Rattle.udf_tree.specs.Fitted.{at_of}
-use Rattle.udf_tree.specs.Order.{addr_cmp}
-use Rattle.udf_tree.specs.Stays.{fitted_by}
+use Rattle.udf_kept.specs.declared.fitted.Selected.{Selected}
+use Rattle.udf_held.specs.declared.held.Held.{Held}
+use Rattle.udf_kept.specs.Fitted.{at_of}
+use Rattle.udf_found.specs.Order.{addr_cmp}
+use Rattle.udf_contents.specs.Stays.{fitted_by}
 use Rattle.udf_tree.proofs.Streaming.{pointer_none, pointer_some}
 use Rattle.udf_tree.proofs.pointers.pointer_at.Goals as goal
 

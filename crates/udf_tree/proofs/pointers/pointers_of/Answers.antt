@@ -1,10 +1,10 @@
 use Rattle.std.proofs.Common.{◌≡◌, ℕ, List, ◌∷◌, [], arith, length, map, get_or, sym, ap, ◌∙◌}
 use Rattle.std.proofs.lemmas.List.{length-append, take_all}
-use Rattle.udf_tree.specs.Fitted.{at_of}
+use Rattle.udf_kept.specs.Fitted.{at_of}
 use Rattle.udf_tree.specs.Nodes.{numbered}
 use Rattle.udf_tree.specs.Survey.{named_by, pointed_by}
-use Rattle.udf_tree.proofs.Mending.{got}
-use Rattle.udf_tree.proofs.Elements.{read_at}
+use Rattle.udf_contents.proofs.Mending.{got}
+use Rattle.udf_dues.proofs.Elements.{read_at}
 use Rattle.udf_tree.proofs.Streaming.{index_kept, told_more}
 use Rattle.udf_tree.proofs.pointers.pointers_of.Goals as goal
 

@@ -2,7 +2,7 @@ use Rattle.std.proofs.Common.{◌≡◌, ℕ, List, length, map, take}
 use Rattle.udf_field.specs.declared.address.Addr.{Addr}
 use Rattle.udf_file_model.specs.Listing.{Volume}
 use Rattle.udf_tree_model.specs.Frame.{Frame}
-use Rattle.udf_tree.specs.Fitted.{at_of}
+use Rattle.udf_kept.specs.Fitted.{at_of}
 use Rattle.udf_tree.specs.Nodes.{AreSurveyed, numbered}
 use Rattle.udf_tree.specs.Survey.{named_by, pointed_by}
 use Rattle.udf_tree.proofs.pointers.pointers_of.Given as goal

@@ -1,7 +1,7 @@
 use Rattle.std.proofs.Common.{List, ap, sym, ◌∙◌, subst, ◌≡◌, None}
 use Rattle.std.specs.Prelude.{slice_get}
 use Rattle.udf_tree_model.specs.Among.{Member}
-use Rattle.udf_tree.specs.declared.held.Held.{Held}
+use Rattle.udf_held.specs.declared.held.Held.{Held}
 use Rattle.udf_tree.proofs.Streaming.{system_none, system_some}
 use Rattle.udf_tree.proofs.pointers.system_of.Goals as goal
 

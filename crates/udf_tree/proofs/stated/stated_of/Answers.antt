@@ -1,7 +1,7 @@
 use Rattle.std.proofs.Common.{◌≡◌, get_or}
 use Rattle.udf_tree.specs.Stated.{stated_in}
-use Rattle.udf_tree.proofs.Elements.{read_at}
-use Rattle.udf_tree.proofs.Sorting.{mapped_more}
+use Rattle.udf_dues.proofs.Elements.{read_at}
+use Rattle.udf_dues.proofs.Sorting.{mapped_more}
 use Rattle.udf_tree.proofs.stated.stated_of.Goals as goal
 
 pub loop-index-preserved : goal.loop-index-preserved

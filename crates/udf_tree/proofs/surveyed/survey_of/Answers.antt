@@ -5,15 +5,15 @@ use Rattle.udf_field.specs.declared.address.Addr.{Addr}
 use Rattle.udf_tree_model.specs.Among.{Member}
 use Rattle.udf_tree_model.specs.Frame.{setting_of, tree_of}
 use Rattle.udf_tree_model.specs.Kept.{kept}
-use Rattle.udf_tree.specs.declared.held.Held.{Held}
-use Rattle.udf_tree.specs.declared.keeping.Keeping.{Keeping}
+use Rattle.udf_held.specs.declared.held.Held.{Held}
+use Rattle.udf_kept.specs.declared.keeping.Keeping.{Keeping}
 use Rattle.udf_tree.specs.declared.node.Node.{Node}
 use Rattle.udf_tree.specs.declared.node.NodeId.{NodeId}
-use Rattle.udf_tree.specs.Fitted.{at_of}
+use Rattle.udf_kept.specs.Fitted.{at_of}
 use Rattle.udf_tree.specs.Judged.{entries_of, judged_links}
 use Rattle.udf_tree.specs.Nodes.{AreNodes, AreSurveyed, IsNumbering, node_addresses, numbered}
 use Rattle.udf_tree.specs.Notes.{AreNotes}
-use Rattle.udf_tree.specs.Order.{addr_cmp}
+use Rattle.udf_found.specs.Order.{addr_cmp}
 use Rattle.udf_tree.specs.Path.{texts_of}
 use Rattle.udf_tree.specs.Survey.{named_by}
 use Rattle.udf_tree.proofs.Enrolling.{kept_parts, root_there}

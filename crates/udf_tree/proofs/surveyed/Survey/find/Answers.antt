@@ -5,7 +5,7 @@ use Rattle.std.specs.List.{list_any}
 use Rattle.std.specs.Option.{option_copied}
 use Rattle.udf_file_model.specs.Address.{same_addr}
 use Rattle.udf_tree.specs.Nodes.{node_addresses}
-use Rattle.udf_tree.specs.Order.{addr_cmp}
+use Rattle.udf_found.specs.Order.{addr_cmp}
 use Rattle.udf_tree.specs.Survey.{View}
 use Rattle.udf_tree.proofs.Enrolling.{number_none}
 use Rattle.udf_tree.proofs.surveyed.Survey.find.Goals as goal

@@ -1,0 +1,9 @@
+pub mod Staying
+pub mod Ruling
+pub mod Mending
+pub mod Renaming
+pub mod Rereading
+pub mod Allocating
+pub mod Covering
+pub mod Leaving
+pub mod Taking

@@ -1,0 +1,4 @@
+pub mod Contents
+pub mod Stays
+pub mod Anew
+pub mod After

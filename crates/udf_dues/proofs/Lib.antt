@@ -1,0 +1,16 @@
+pub mod Runs
+pub mod Filling
+pub mod Settling
+pub mod Ascending
+pub mod Numbering
+pub mod Differing
+pub mod Sorting
+pub mod Assigning
+pub mod Wholeness
+pub mod Parentage
+pub mod Tallying
+pub mod Totals
+pub mod KeptParents
+pub mod Balancing
+pub mod HeldBytes
+pub mod Elements

@@ -1,0 +1,12 @@
+pub mod Lines
+pub mod Told
+pub mod Queueing
+pub mod Visiting
+pub mod Adding
+pub mod Seeing
+pub mod Going
+pub mod Beginning
+pub mod Wanting
+pub mod Merging
+pub mod Piecing
+pub mod Alone

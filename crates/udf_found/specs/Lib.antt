@@ -1,0 +1,13 @@
+pub mod Target
+pub mod Read
+pub mod Spot
+pub mod Visit
+pub mod Order
+pub mod Seen
+pub mod Begin
+pub mod Wanted
+pub mod Beyond
+pub mod Merged
+pub mod Shape
+pub mod Linked
+pub mod Parents

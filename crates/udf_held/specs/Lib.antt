@@ -1,0 +1,3 @@
+pub mod Winners
+pub mod Standing
+pub mod Held

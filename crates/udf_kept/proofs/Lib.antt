@@ -1,0 +1,14 @@
+pub mod Counted
+pub mod Rooting
+pub mod Indexing
+pub mod Offering
+pub mod Choosing
+pub mod Fitting
+pub mod Selecting
+pub mod Layering
+pub mod Parenting
+pub mod Depicting
+pub mod ByIndex
+pub mod Keepers
+pub mod Ordinaries
+pub mod Hanging

@@ -1,8 +1,0 @@
-use Rattle.std.proofs.Common.{refl, arith, rules}
-use Rattle.udf_tree.specs.Marks.{maybe}
-use Rattle.udf_tree.proofs.Tallying.{mark_taken}
-use Rattle.udf_tree.proofs.counts.count_stream_link.Goals as goal
-
-pub returns-then-to-counts : goal.returns-then-to-counts
-returns-then-to-counts c ms h =
-    mark_taken ms c.args.counts.now c.args.to (maybe c.args.to) refl _ (omega arith) (search rules) (search rules) h

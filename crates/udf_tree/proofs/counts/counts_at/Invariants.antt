@@ -1,6 +1,0 @@
-use Rattle.std.proofs.Common.{◌≡◌, map, take}
-use Rattle.udf_tree.specs.Counts.{count_in}
-use Rattle.udf_tree.proofs.counts.counts_at.Given as goal
-
-abbrev pub invariant-loop-index : goal.invariant-loop-index
-invariant-loop-index l = l.those.items ≡ map (count_in l.counts) (take l.index-index l.indexes)

@@ -1,5 +1,0 @@
-use Rattle.udf_tree.proofs.Filling.{State}
-use Rattle.udf_tree.proofs.identifiers.fill.Given as goal
-
-abbrev pub invariant-loop-id : goal.invariant-loop-id
-invariant-loop-id l = State l.ids l.id-index l.next l.wanted.items

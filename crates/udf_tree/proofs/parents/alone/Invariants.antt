@@ -1,8 +1,0 @@
-use Rattle.std.proofs.Common.{◌≡◌}
-use Rattle.udf_file_model.specs.Scan.{fids, fids_of}
-use Rattle.udf_tree.specs.declared.parents.Named.TheVariants.{Nothing}
-use Rattle.udf_tree.proofs.Alone.{after}
-use Rattle.udf_tree.proofs.parents.alone.Given as goal
-
-abbrev pub invariant-loop-fid : goal.invariant-loop-fid
-invariant-loop-fid l = after l.named (fids_of l.fid-iterator) ≡ after Nothing (fids_of (fids l.size l.content))

@@ -1,9 +1,0 @@
-use Rattle.std.proofs.Common.{◌≡◌, ◌++◌, drop, map}
-use Rattle.udf_file_model.specs.Pieces.{Extent}
-use Rattle.udf_tree.specs.Shape.{pieces_seen}
-use Rattle.udf_tree.proofs.pieces.add_rest.Given as goal
-
-abbrev pub invariant-loop-i : goal.invariant-loop-i
-invariant-loop-i l = record {
-  added : pieces_seen l.pieces.items ++ map Extent (drop l.i l.list.extents) ≡ pieces_seen l.fn.pieces.items ++ map Extent (drop l.fn.next l.list.extents);
-}
