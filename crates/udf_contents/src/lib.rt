@@ -12,5 +12,5 @@ mod stays;
 
 pub use after::claims_after;
 pub use contents::{MendedContent, fitted_at, mended_contents};
-pub use parent::{is_link, is_stream_directory, parent_of};
+pub use parent::{address_at, is_link, is_stream_directory, parent_of};
 pub use stays::{chosen_at, is_sound_entry, parents_stay};

@@ -15,8 +15,8 @@ use udf_field::Addr;
 use udf_held::Held;
 use udf_kept::{Choice, Keeping, Selected};
 
-// The address of the entry at an index, where there is one.
-fn address_at(held: &[Held], i: usize) -> Option<Addr>
+/// The address of the entry at an index, where there is one.
+pub fn address_at(held: &[Held], i: usize) -> Option<Addr>
     ensures { result ≡ at_of held.now i }
 {
     if i < held.len() {

@@ -1,4 +1,5 @@
 pub mod TestParts
+pub mod Arriving
 pub mod Framing
 pub mod Naming
 pub mod Enrolling
@@ -11,5 +12,8 @@ pub mod Stepping
 pub mod Climbing
 pub mod Sequencing
 pub mod Measuring
+pub mod Kindred
+pub mod Kinship
+pub mod Descending
 pub mod Filing
 pub mod Noting

@@ -104,7 +104,7 @@ module _ (f : Frame) (v : Volume) (root file_set : Addr) (e : Entries) (links id
       ap (λ (o : Option Selected). map (step_seen e.held.items) (fitted_by o)) x.1 ∙ x.2.of_sound sound_held ∙ ap (λ (b : Addr). map step_of (fitted s t b)) r.2
 
   -- the target of a fitted link has a number
-  target_has : (a : Addr) (l : Link) → kept (setting_of f v) (tree_of f v) a ≡ true → Member l (fitted (setting_of f v) (tree_of f v) a) → Member (target_of l.says) (numbered e.kept.items e.held.items)
+  pub target_has : (a : Addr) (l : Link) → kept (setting_of f v) (tree_of f v) a ≡ true → Member l (fitted (setting_of f v) (tree_of f v) a) → Member (target_of l.says) (numbered e.kept.items e.held.items)
   target_has a l own m =
       let s = setting_of f v in
       let t = tree_of f v in
@@ -145,14 +145,14 @@ module _ (f : Frame) (v : Volume) (root file_set : Addr) (e : Entries) (links id
             ap (named_by (numbered e.kept.items e.held.items)) (h (target_of l.says) there) ∙ by_number (target_of l.says) m (number (target_of l.says)) refl
 
   -- ---- the system stream directory
-  shapeless : (h : Held) → Member h e.held.items → is_holder f v h.at ≡ true → h.shape ≡ None
+  pub shapeless : (h : Held) → Member h e.held.items → is_holder f v h.at ≡ true → h.shape ≡ None
   shapeless h m q = by h.shape refl (k.entries.held.each_of h m).shape
     where
       by : (o : Option Shape) → h.shape ≡ o → IsShaped f v h.at o → h.shape ≡ None
       by None w x = w
       by (Some y) w x = absurd (false≢true (sym x.0 ∙ q))
 
-  holder_kept : is_holder f v f.file_set ≡ true → kept (setting_of f v) (tree_of f v) f.file_set ≡ true
+  pub holder_kept : is_holder f v f.file_set ≡ true → kept (setting_of f v) (tree_of f v) f.file_set ≡ true
   holder_kept q = kept_start (setting_of f v) (tree_of f v) (volume_within f v) (starts f v root file_set e links ids k) f.file_set (holder_begins f v f.file_set q)
 
   pub system_none : ((h : Held) → Member h e.held.items → h.shape ≡ None → ⊥) → None ≡ option_map Some (system_from f v)

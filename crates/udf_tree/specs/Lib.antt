@@ -1,6 +1,7 @@
 pub mod Framed
 pub mod Nodes
 pub mod Survey
+pub mod Kindred
 pub mod Accepted
 pub mod Judged
 pub mod Path

@@ -11,6 +11,7 @@ use Rattle.udf_tree.specs.declared.notes.Notes.{Notes}
 use Rattle.udf_dues.specs.Counts.{count_in}
 use Rattle.udf_kept.specs.Fitted.{at_of}
 use Rattle.udf_tree.specs.KeptContents.{AreKeptContents}
+use Rattle.udf_tree.specs.Kindred.{child_by, sibling_by}
 use Rattle.udf_tree.specs.Judged.{AreJudged, entries_of}
 use Rattle.udf_tree.specs.Nodes.{IsNumbering, node_addresses, numbered}
 use Rattle.udf_tree.specs.Path.{AreNamed, texts_of}
@@ -25,6 +26,7 @@ pub record AreAsMany (n : ℕ) (x : Notes) : Type 0 where
   pub stated_many : length x.stated.items ≡ n
   pub counts_many : length x.counts.items ≡ n
   pub contents_many : length x.contents.items ≡ n
+  pub kin_many : length x.kin.items ≡ n
 
 -- they are of the found entries at these indexes, in order, where all found entries have these counts
 pub record AreNotes (f : Frame) (v : Volume) (e : Entries) (cs : List Count) (is : List ℕ) (x : Notes) : Type 0 where
@@ -34,6 +36,8 @@ pub record AreNotes (f : Frame) (v : Volume) (e : Entries) (cs : List Count) (is
   pub stated_are : x.stated.items ≡ map (stated_in e.held.items) is
   pub counts_are : x.counts.items ≡ map (count_in cs) is
   pub contents_are : AreKeptContents f v e.held.items is x.contents.items
+  pub children_are : map (λ k. named_by (numbered e.kept.items e.held.items) k.first_child) x.kin.items ≡ map (λ i. child_by f v (at_of e.held.items i)) is
+  pub siblings_are : map (λ k. named_by (numbered e.kept.items e.held.items) k.next_sibling) x.kin.items ≡ map (λ i. sibling_by f v (at_of e.held.items i)) is
 
 -- the numbers of nodes; of each the index of its found entry, and the notes; and numbers of nodes in another order
 pub record AreIndexed (nodes : List Node) (number : Addr → Option NodeId) (indexes : List ℕ) (order : List NodeId) (x : Notes) : Type 0 where

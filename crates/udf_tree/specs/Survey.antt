@@ -3,6 +3,7 @@ use Rattle.std.specs.Prelude.{◌≡◌, ℕ, not, ◌&&◌, find, nat_eq, optio
 use Rattle.udf_field.specs.declared.address.Addr.{Addr}
 use Rattle.udf_file_model.specs.Listing.{Volume}
 use Rattle.udf_claims.specs.declared.run.Run.{Run}
+use Rattle.udf_tree_model.specs.Children.{first_child, next_sibling}
 use Rattle.udf_tree_model.specs.Content.{content_stays, mended_content}
 use Rattle.udf_tree_model.specs.Chosen.{fitted}
 use Rattle.udf_tree_model.specs.Frame.{Frame, is_holder, setting_of, tree_of}
@@ -10,6 +11,7 @@ use Rattle.udf_tree_model.specs.Link.{target_of}
 use Rattle.udf_tree_model.specs.Ordinary.{files_named, kept_entries}
 use Rattle.udf_contents.specs.declared.contents.MendedContent.{MendedContent}
 use Rattle.udf_dues.specs.declared.counts.Count.{Count}
+use Rattle.udf_tree.specs.declared.children.Kin.{Kin}
 use Rattle.udf_tree.specs.declared.judge.Verdict.{Verdict}
 use Rattle.udf_tree.specs.declared.kept_contents.KeptContent.{KeptContent}
 use Rattle.udf_tree.specs.declared.node.Node.{Node}
@@ -26,7 +28,8 @@ use Rattle.udf_tree.specs.Stated.{stated_at}
 -- the kept entries by their numbers, and the numbers in the order of addresses; the number of the root; of each what is written
 -- in place of its content; what is taken; of each the number of its stream directory; that of the system stream directory; how
 -- many FIDs name files; of each what is judged of its links, by their places, the name of the link that keeps it, what it states,
--- the least and the greatest link count that it may state, and its content, where it is a directory
+-- the least and the greatest link count that it may state, its content, where it is a directory, and its first child and its next
+-- sibling by their numbers
 pub record View : Type 0 where
   pub nodes : List Node
   pub order : List NodeId
@@ -41,6 +44,7 @@ pub record View : Type 0 where
   pub stated : List Stated
   pub counts : List Count
   pub kept_contents : List (Option KeptContent)
+  pub kin : List Kin
 
 -- the content that the mend makes of a kept directory's, where that does not stay
 unfoldable pub wanted_content : Frame → Volume → Node → Option (List ℕ)
@@ -76,6 +80,8 @@ pub record IsSurvey (f : Frame) (v : Volume) (x : View) : Type 0 where
   pub stated_are : x.stated ≡ map (λ n. stated_at v n.at) x.nodes
   pub counts_are : x.counts ≡ map (λ n. count_of f v n.at) x.nodes
   pub kept_contents_are : x.kept_contents ≡ map (kept_content_of f v) x.nodes
+  pub children_are : map (λ k. named_by (node_addresses x.nodes) k.first_child) x.kin ≡ map (λ n. option_map Some (first_child f v n.at)) x.nodes
+  pub siblings_are : map (λ k. named_by (node_addresses x.nodes) k.next_sibling) x.kin ≡ map (λ n. option_map Some (next_sibling f v n.at)) x.nodes
   pub system_is : named_by (node_addresses x.nodes) x.system ≡ option_map Some (system_from f v)
   pub files_are : x.files_named ≡ files_named f v
 

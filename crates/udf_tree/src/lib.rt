@@ -4,6 +4,8 @@
 //! what entries are to state.
 #![tactic(auto)]
 
+mod children;
+mod climb;
 mod file_survey;
 mod files;
 mod framed;
@@ -23,6 +25,7 @@ mod surveyed;
 #[cfg(test)]
 mod tests;
 
+pub use children::Kin;
 pub use file_survey::survey;
 pub use framed::frame_law;
 pub use judge::Verdict;

@@ -8,6 +8,7 @@ ghost use Rattle.udf_tree.specs.Nodes.{AreSurveyed, IsNumbering, numbered};
 ghost use Rattle.udf_tree.specs.Notes.{AreAsMany, AreNotes};
 ghost use Rattle.udf_found.specs.Order.{addr_cmp};
 
+use crate::children::{Kin, kin_of};
 use crate::judge::{Verdicts, judge_all};
 use crate::kept_contents::{KeptContent, contents_at};
 use crate::names::names_of;
@@ -35,6 +36,8 @@ pub(crate) struct Notes {
     pub counts: Vec<Count>,
     /// The content of a directory; None of another entry.
     pub contents: Vec<Option<KeptContent>>,
+    /// Its first child and its next sibling.
+    pub kin: Vec<Kin>,
 }
 
 /// The notes of the found entries at these indexes, in order. `root` is the root, `file_set` the address of the file set. Takes
@@ -60,6 +63,7 @@ pub(crate) fn notes_of(
     let stated = stated_of(alloc, &entries.held, indexes)?;
     let counts = counts_at(alloc, &dues.counts, indexes)?;
     let contents = contents_at(alloc, entries, root, file_set, indexes)?;
+    let kin = kin_of(alloc, root, entries, numbers, indexes)?;
     Ok(Notes {
         pointers,
         verdicts,
@@ -67,5 +71,6 @@ pub(crate) fn notes_of(
         stated,
         counts,
         contents,
+        kin,
     })
 }

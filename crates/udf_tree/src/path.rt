@@ -1,16 +1,17 @@
 // Paths of kept entries.
-ghost use Rattle.std.specs.Prelude.{◌≡◌, ◌<◌, ◌≤◌, Some, IfOk, length, slice_get};
+ghost use Rattle.std.specs.Prelude.{◌≡◌, ◌<◌, Some, IfOk, length, slice_get};
 ghost use Rattle.udf_field.specs.declared.address.Addr.{Addr};
 ghost use Rattle.udf_file_model.specs.Listing.{Volume};
+ghost use Rattle.udf_tree_model.specs.Climb.{IsDistance};
 ghost use Rattle.udf_tree_model.specs.Frame.{Frame};
 ghost use Rattle.udf_tree.specs.Nodes.{node_addresses};
 ghost use Rattle.udf_tree.specs.Path.{IsRise, texts_of};
 ghost use Rattle.udf_tree.specs.Rise.{AreSteps, name_at};
 
+use crate::climb::above;
 use crate::node::{Node, NodeId};
 use std::alloc::{AllocError, Global};
 use std::marker::Model;
-use udf_field::Addr;
 
 /// The names from the root to a kept entry.
 #[derive(Debug, Drop)]
@@ -67,31 +68,24 @@ fn name_of(names: &[Vec<u8>], id: NodeId) -> &[u8]
     if i < names.len() { &names[i] } else { &[] }
 }
 
-/// The names from a node up to the root. Of a survey's nodes each parent is nearer to a start, so the walk is at the root before it
-/// has taken as many steps as there are nodes.
+/// The names of so many steps from a node up.
 pub(crate) fn names_up(
     alloc: Global,
     nodes: &[Node],
     names: &[Vec<u8>],
-    root: Addr,
     id: NodeId,
+    steps: u32,
 ) -> Result<Vec<Vec<u8>>, AllocError>
-    ensures few { IfOk result (λ steps. length steps.items ≤ length nodes.now) }
-    ensures rise { (f : Frame) (v : Volume) → AreSteps f v nodes.now (texts_of names.now) → f.root ≡ root → (a : Addr) → slice_get (node_addresses nodes.now) id.0 ≡ Some a
-        → IfOk result (λ steps. IsRise f v a (texts_of steps.items)) }
+    ensures many { IfOk result (λ upward. length upward.items ≡ steps) }
+    ensures rise { (f : Frame) (v : Volume) → AreSteps f v nodes.now (texts_of names.now) → (a : Addr) → slice_get (node_addresses nodes.now) id.0 ≡ Some a → IsDistance f v a steps
+        → IfOk result (λ upward. IsRise f v a (texts_of upward.items)) }
 {
-    let mut steps = Vec::new(alloc);
+    let mut upward = Vec::new(alloc);
     let mut at = id;
-    for _ in 0..nodes.len() {
-        let Some(node) = node_of(nodes, at) else {
-            return Err(AllocError);
-        };
-        if node.at == root {
-            return Ok(steps);
-        }
+    for _ in 0..steps {
         let name = Vec::from_slice(alloc, name_of(names, at))?;
-        steps.push(name)?;
-        at = node.parent;
+        upward.push(name)?;
+        at = above(nodes, at);
     }
-    Err(AllocError)
+    Ok(upward)
 }

@@ -34,8 +34,8 @@ fn pointer_in(fitted: &[Fitted]) -> Option<usize>
     None
 }
 
-// The number of the found entry at an index, where it has one.
-fn number_at(held: &[Held], numbers: &Numbers, i: usize) -> Option<NodeId>
+/// The number of the found entry at an index, where it has one.
+pub(crate) fn number_at(held: &[Held], numbers: &Numbers, i: usize) -> Option<NodeId>
     ensures { (a : Addr) → at_of held.now i ≡ Some a → result ≡ get addr_cmp numbers.now a }
 {
     if i >= held.len() {
@@ -79,8 +79,8 @@ pub(crate) fn pointers_of(
     Ok(pointers)
 }
 
-// The index of the holder of the pointer to the system stream directory: the found entry with no block of its own.
-fn holder_in(held: &[Held]) -> Option<usize>
+/// The index of the holder of the pointer to the system stream directory: the found entry with no block of its own.
+pub(crate) fn holder_in(held: &[Held]) -> Option<usize>
     ensures { MatchOption result ((h : Held) → Member h held.now → h.shape ≡ None → ⊥) (λ i. (h : Held) × (slice_get held.now i ≡ Some h) × (h.shape ≡ None)) }
 {
     for (i, entry) in held.iter().enumerate() {

@@ -6,16 +6,19 @@ ghost use Rattle.udf_claims.specs.Winner.{IsNextClaimed, IsUnclaimedFrom, claime
 ghost use Rattle.udf_field.specs.declared.address.Addr.{Addr};
 ghost use Rattle.udf_file_model.specs.Address.{same_addr};
 ghost use Rattle.udf_file_model.specs.Listing.{Volume};
+ghost use Rattle.udf_tree_model.specs.Climb.{IsDistance};
 ghost use Rattle.udf_tree_model.specs.Frame.{Frame};
 ghost use Rattle.udf_contents.specs.After.{TellsTaken};
 ghost use Rattle.udf_contents.specs.Contents.{AreContents};
 ghost use Rattle.udf_dues.specs.Counts.{AreCounts};
+ghost use Rattle.udf_tree.specs.declared.children.Kin.{Kin};
 ghost use Rattle.udf_tree.specs.Judged.{verdict_in};
 ghost use Rattle.udf_tree.specs.Nodes.{AreSurveyed, node_addresses};
 ghost use Rattle.udf_found.specs.Order.{addr_cmp};
 ghost use Rattle.udf_tree.specs.Path.{IsPath};
 ghost use Rattle.udf_tree.specs.Survey.{IsSurvey, bytes_at};
 
+use crate::climb::steps_up;
 use crate::files::files_of;
 use crate::judge::Verdict;
 use crate::kept_contents::KeptContent;
@@ -23,7 +26,7 @@ use crate::node::{Node, NodeId};
 use crate::nodes::nodes_of;
 use crate::notes::{Notes, notes_of};
 use crate::numbers::{Numbers, in_order, kept_addresses, kept_indexes, number_of, numbers_of};
-use crate::path::{Path, names_up, node_of};
+use crate::path::{Path, names_up};
 use crate::pointers::system_of;
 use crate::stated::Stated;
 use std::alloc::{AllocError, Global};
@@ -66,7 +69,7 @@ impl Model for Survey {
 
     ghost Value = { View };
 
-    ghost view = { λ s. record { nodes = s.nodes.items; order = s.order.items; root = s.root; contents = map (bytes_at s.contents.items) s.indexes.items; runs = s.claims; pointers = s.notes.pointers.items; system = s.system; files_named = s.files_named; verdicts = entries_of s.notes.verdicts.items; names = texts_of s.notes.names.items; stated = s.notes.stated.items; counts = s.notes.counts.items; kept_contents = s.notes.contents.items } };
+    ghost view = { λ s. record { nodes = s.nodes.items; order = s.order.items; root = s.root; contents = map (bytes_at s.contents.items) s.indexes.items; runs = s.claims; pointers = s.notes.pointers.items; system = s.system; files_named = s.files_named; verdicts = entries_of s.notes.verdicts.items; names = texts_of s.notes.names.items; stated = s.notes.stated.items; counts = s.notes.counts.items; kept_contents = s.notes.contents.items; kin = s.notes.kin.items } };
 
     ghost invariant = { λ s. AreIndexed s.nodes.items (get addr_cmp s.numbers) s.indexes.items s.order.items s.notes };
 }
@@ -213,15 +216,38 @@ impl Survey {
         self.notes.contents[id.0 as usize]
     }
 
+    /// How many steps lead from the root to a kept entry: as many as its path has names. Takes as long as the path.
+    pub fn steps(&self, id: NodeId) -> u32
+        requires { id.0 < length self.now.nodes }
+        ensures { (f : Frame) (v : Volume) → IsSurvey f v self.now → (a : Addr) → slice_get (node_addresses self.now.nodes) id.0 ≡ Some a → IsDistance f v a result }
+    {
+        steps_up(&self.nodes, self.root, id)
+    }
+
+    /// The number of the first child of a kept entry. Its children are the kept entries whose parent it is: first its stream
+    /// directory, then the others in the order of the FIDs that keep them; of the root the system stream directory is the last.
+    pub fn first_child(&self, id: NodeId) -> Option<NodeId>
+        requires { id.0 < length self.now.nodes }
+        ensures { (k : Kin) → slice_get self.now.kin id.0 ≡ Some k → result ≡ k.first_child }
+    {
+        self.notes.kin[id.0 as usize].first_child
+    }
+
+    /// The number of the next child of the parent of a kept entry; None of the last one, and of the root.
+    pub fn next_sibling(&self, id: NodeId) -> Option<NodeId>
+        requires { id.0 < length self.now.nodes }
+        ensures { (k : Kin) → slice_get self.now.kin id.0 ≡ Some k → result ≡ k.next_sibling }
+    {
+        self.notes.kin[id.0 as usize].next_sibling
+    }
+
     /// The names from the root to a kept entry. A step to a stream directory has an empty name. Takes as long as the path.
     pub fn path_of(&self, alloc: Global, id: NodeId) -> Result<Path, AllocError>
         requires { id.0 < length self.now.nodes }
-        ensures { (f : Frame) (v : Volume) → IsSurvey f v self.now → (a : Addr) → slice_get (node_addresses self.now.nodes) id.0 ≡ Some a → IfOk result (IsPath f v a) }
+        ensures path { (f : Frame) (v : Volume) → IsSurvey f v self.now → (a : Addr) → slice_get (node_addresses self.now.nodes) id.0 ≡ Some a → IfOk result (IsPath f v a) }
+        ensures length { (f : Frame) (v : Volume) → IsSurvey f v self.now → (a : Addr) → slice_get (node_addresses self.now.nodes) id.0 ≡ Some a → IfOk result (λ names. IsDistance f v a (length names)) }
     {
-        let Some(root) = node_of(&self.nodes, self.root) else {
-            return Err(AllocError);
-        };
-        let upward = names_up(alloc, &self.nodes, &self.notes.names, root.at, id)?;
+        let upward = names_up(alloc, &self.nodes, &self.notes.names, id, self.steps(id))?;
         Ok(Path { upward })
     }
 

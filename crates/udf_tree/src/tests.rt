@@ -2,10 +2,12 @@
 ghost use Rattle.std.specs.Prelude.{◌<◌, IfSome, length};
 
 use crate::node::{Node, NodeId};
+use crate::path::Path;
 use crate::small_volume::{
     blocks, directory, directory_with, file, named, root_with_pointer, survey_over,
 };
 use crate::surveyed::Survey;
+use std::alloc::Global;
 use std::test::Fail;
 use udf_field::Addr;
 
@@ -35,6 +37,16 @@ fn mended_at(survey: &Survey, block: u32) -> Option<&[u8]> {
 // The number of the stream directory of the kept entry at a block.
 fn pointer_at(survey: &Survey, block: u32) -> Option<NodeId> {
     survey.pointer(number_at(survey, block)?)
+}
+
+// The first child of the kept entry at a block.
+fn first_child_at(survey: &Survey, block: u32) -> Option<NodeId> {
+    survey.first_child(number_at(survey, block)?)
+}
+
+// The next sibling of the kept entry at a block.
+fn next_sibling_at(survey: &Survey, block: u32) -> Option<NodeId> {
+    survey.next_sibling(number_at(survey, block)?)
 }
 
 // Which of blocks 2 to 6 are claimed.
@@ -69,6 +81,25 @@ fn stream_node(block: u32) -> Node {
     Node {
         ordinary: false,
         ..node(block, 1, 80, 0, 0)
+    }
+}
+
+// The path of the kept entry at a block.
+fn path_at(alloc: Global, survey: &Survey, block: u32) -> Option<Path> {
+    survey.path_of(alloc, number_at(survey, block)?).ok()
+}
+
+// How many steps lead to the kept entry at a block.
+fn steps_at(survey: &Survey, block: u32) -> Option<u32> {
+    Some(survey.steps(number_at(survey, block)?))
+}
+
+// The name of a step of a path.
+fn name_in(path: &Path, i: u32) -> Option<&[u8]> {
+    if i < path.len() {
+        Some(path.name(i))
+    } else {
+        None
     }
 }
 
@@ -108,6 +139,22 @@ fn stream_directories_hang_on_the_root(rt: HostRuntime) -> Result<(), Fail> {
     Ok(())
 }
 
+// Of the root the stream directory is the first child, and the system stream directory the last; the file between them, which
+// all three name, is a child of the root alone.
+#[test]
+fn children_stand_in_the_order_of_links(rt: HostRuntime) -> Result<(), Fail> {
+    let blocks = blocks(512, &root_with_pointer(), &directory(5), &directory(6));
+    let survey = survey_over(rt.alloc(), &blocks).ok_or("no survey")?;
+    assert!(rt; first_child_at(&survey, 3) == survey.find(at(5)));
+    assert!(rt; next_sibling_at(&survey, 5) == survey.find(at(4)));
+    assert!(rt; next_sibling_at(&survey, 4) == survey.find(at(6)));
+    assert!(rt; next_sibling_at(&survey, 6) == None);
+    assert!(rt; next_sibling_at(&survey, 3) == None);
+    assert!(rt; first_child_at(&survey, 5) == None);
+    assert!(rt; first_child_at(&survey, 6) == None);
+    Ok(())
+}
+
 // The root names a directory, which names the root: that FID goes, and the others of the directory stay. A pointer of length 0
 // leads nowhere.
 #[test]
@@ -124,5 +171,22 @@ fn link_to_the_root_is_mended(rt: HostRuntime) -> Result<(), Fail> {
     assert!(rt; mended_at(&survey, 3) == None);
     assert!(rt; mended_at(&survey, 5) == Some(&fifth[216..296]));
     assert!(rt; claimed(&survey) == [true, true, true, true, false]);
+    Ok(())
+}
+
+// A directory in a directory is two steps away; the file that both name, and the root too, is one.
+#[test]
+fn path_has_a_name_for_each_step(rt: HostRuntime) -> Result<(), Fail> {
+    let root = directory_with(3, 0, &named(b'd', 5));
+    let fifth = directory_with(5, 16, &named(b's', 6));
+    let blocks = blocks(0, &root, &fifth, &directory(6));
+    let survey = survey_over(rt.alloc(), &blocks).ok_or("no survey")?;
+    assert!(rt; steps_at(&survey, 3) == Some(0));
+    assert!(rt; steps_at(&survey, 4) == Some(1));
+    assert!(rt; steps_at(&survey, 6) == Some(2));
+    let path = path_at(rt.alloc(), &survey, 6).ok_or("no path")?;
+    assert!(rt; path.len() == 2);
+    assert!(rt; name_in(&path, 0) == Some(&[8, b'd']));
+    assert!(rt; name_in(&path, 1) == Some(&[8, b's']));
     Ok(())
 }

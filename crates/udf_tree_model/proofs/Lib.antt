@@ -13,3 +13,8 @@ pub mod Settling
 pub mod Paths
 pub mod Stating
 pub mod Parents
+pub mod Nearing
+pub mod Distances
+pub mod Shortest
+pub mod Siblings
+pub mod NextSiblings

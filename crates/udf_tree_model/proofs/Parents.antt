@@ -31,7 +31,7 @@ keeping_give s t a (d ∷ ds) k m = go (λ h. keeping_give s t a ds k h) (kept s
         let q = member_filter (leads_to a) (fitted s t d) r.0 r.1 in
         (d, r.0, record { holder = e; among = contains_of (fitted s t d) r.0 q.0; leads = same_address (target_of r.0.says) a q.1 }, r.2)
 
-keeping_have : (s : Setting) (t : Tree) (a : Addr) (ds : List Addr) (d : Addr) (f : Link) → Member d ds → KeepsBy s t a d f → Member (keeping_rank s t d f) (keeping_over s t a ds)
+pub keeping_have : (s : Setting) (t : Tree) (a : Addr) (ds : List Addr) (d : Addr) (f : Link) → Member d ds → KeepsBy s t a d f → Member (keeping_rank s t d f) (keeping_over s t a ds)
 unfolding keeping_over keeping_in
 keeping_have s t a [] d f m h = absurd m
 keeping_have s t a (x ∷ xs) d f (inr m) h = member_right _ _ (keeping_rank s t d f) (keeping_have s t a xs d f m h)

@@ -14,9 +14,11 @@ pub mod Intact
 pub mod Frame
 pub mod Refused
 pub mod Parent
+pub mod Children
 pub mod Content
 pub mod Counts
 pub mod Claimed
 pub mod Reads
 pub mod Stated
 pub mod Ordinary
+pub mod Climb

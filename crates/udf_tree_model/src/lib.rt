@@ -3,8 +3,9 @@
 //! definitions mean. It stands on the definitions of files.
 #![tactic(auto)]
 
-ghost use Rattle.std.specs.Prelude.{◌≡◌, ◌≢◌, ◌<◌, ◌≤◌, ◌↔◌, ◌⊎◌, ◌∷◌, ℕ, List, AllPairs, Contains, Some, None, true, false};
+ghost use Rattle.std.specs.Prelude.{◌≡◌, ◌≢◌, ◌<◌, ◌≤◌, ◌↔◌, ◌⊎◌, ◌∷◌, ℕ, List, AllPairs, Contains, Some, None, true, false, length};
 ghost use Rattle.udf_field.specs.declared.address.Addr.{Addr};
+ghost use Rattle.udf_file_model.specs.Address.{same_addr};
 ghost use Rattle.udf_file_model.specs.Listing.{Volume, addresses, good_length as entry_length, is_placed, list_for, with_disk};
 ghost use Rattle.udf_file_model.specs.Entry.{Entry};
 ghost use Rattle.udf_tree_model.specs.Stated.{IsFileSetPlaced, taken};
@@ -20,7 +21,9 @@ ghost use Rattle.udf_tree_model.specs.Reads.{HasSameReads};
 ghost use Rattle.udf_tree_model.specs.Mended.{IsMended, IsSettled};
 ghost use Rattle.udf_tree_model.specs.Intact.{IsIntactPath, LeadsAlike};
 ghost use Rattle.udf_tree_model.specs.Kept.{depth, kept, kept_graph};
-ghost use Rattle.udf_tree_model.specs.Parent.{keeping, keeping_rank};
+ghost use Rattle.udf_tree_model.specs.Parent.{keeping, keeping_rank, parent};
+ghost use Rattle.udf_tree_model.specs.Ordinary.{is_kept_entry, kept_entries};
+ghost use Rattle.udf_tree_model.specs.Climb.{IsDistance, IsNearer};
 ghost use Rattle.udf_tree_model.specs.Won.{IsFree, IsUnrivalled, IsWant, kept_length, sound, wins};
 
 /// What is found is the least set that has each readable start, and with an entry the readable targets of its links; rounds
@@ -113,6 +116,21 @@ pub fn parent_law()
         → (d : Addr) (f : Link) → KeepsBy s t a d f → ⊥ }
     ensures directory { (s : Setting) (t : Tree) → IsWithin s t → HasSoundStarts s t → PlacesDiffer t → (a d : Addr) (f : Link)
         → KeepsBy s t a d f → (node_at t a).directory ≡ true → keeping s t a ≡ Some (keeping_rank s t d f) }
+{}
+
+/// From each kept entry parents lead up to the root: the parent of another than the root is the root, or a kept entry of less
+/// depth. That takes no more steps than the depth, where the file set stands in the volume, and fewer than there are kept entries.
+/// Where no entry stands at the file set it takes exactly as many: parents go a shortest way.
+pub fn climb_law()
+    ensures up { (f : Frame) (v : Volume) (a : Addr) → is_kept_entry f v a ≡ true → same_addr a f.root ≡ false
+        → (parent f v a ≡ f.root) ⊎ IsNearer f v a (parent f v a) }
+    ensures distance { (f : Frame) (v : Volume) (a : Addr) → is_kept_entry f v a ≡ true → (k : ℕ) × IsDistance f v a k }
+    ensures depth { (f : Frame) (v : Volume) → IsFileSetPlaced f v → (a : Addr) → is_kept_entry f v a ≡ true → (k : ℕ)
+        → IsDistance f v a k → k ≤ depth (setting_of f v) (tree_of f v) a }
+    ensures few { (f : Frame) (v : Volume) → refusal f v ≡ None → IsFileSetPlaced f v → is_kept_entry f v f.root ≡ true → (a : Addr)
+        → is_kept_entry f v a ≡ true → (k : ℕ) → IsDistance f v a k → k < length (kept_entries f v) }
+    ensures shortest { (f : Frame) (v : Volume) → refusal f v ≡ None → IsFileSetPlaced f v → entry_at v f.file_set ≡ None → (a : Addr)
+        → is_kept_entry f v a ≡ true → IsDistance f v a (depth (setting_of f v) (tree_of f v) a) }
 {}
 
 /// What is found and kept rests on the blocks of the addresses at which entries are sought, of the allocation extents of found

@@ -15,6 +15,7 @@ returns-clause-many c = record {
   stated_many = ap length c.in_ok-stated.ensures ∙ length-map c.args.indexes.now (stated_in c.deref.result.now);
   counts_many = ap length c.in_ok-counts.ensures ∙ length-map c.args.indexes.now (count_in c.deref-2.result.now);
   contents_many = c.in_ok-contents.ensures.many;
+  kin_many = c.in_ok-kin.ensures.many;
 }
 
 pub returns-clause-notes : goal.returns-clause-notes
@@ -25,4 +26,6 @@ returns-clause-notes c f v links ids some k = record {
   stated_are = c.in_ok-stated.ensures ∙ ap (λ (hs : List Held). map (stated_in hs) c.args.indexes.now) c.deref.ensures.value;
   counts_are = c.in_ok-counts.ensures ∙ ap (λ (cs : List Count). map (count_in cs) c.args.indexes.now) c.deref-2.ensures.value;
   contents_are = c.in_ok-contents.ensures.contents f v links ids some k;
+  children_are = c.in_ok-kin.ensures.children f v c.args.file_set links ids k;
+  siblings_are = c.in_ok-kin.ensures.siblings f v c.args.file_set links ids k;
 }

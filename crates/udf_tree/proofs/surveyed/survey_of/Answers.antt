@@ -7,6 +7,7 @@ use Rattle.udf_tree_model.specs.Frame.{setting_of, tree_of}
 use Rattle.udf_tree_model.specs.Kept.{kept}
 use Rattle.udf_held.specs.declared.held.Held.{Held}
 use Rattle.udf_kept.specs.declared.keeping.Keeping.{Keeping}
+use Rattle.udf_tree.specs.declared.children.Kin.{Kin}
 use Rattle.udf_tree.specs.declared.node.Node.{Node}
 use Rattle.udf_tree.specs.declared.node.NodeId.{NodeId}
 use Rattle.udf_kept.specs.Fitted.{at_of}
@@ -16,6 +17,7 @@ use Rattle.udf_tree.specs.Notes.{AreNotes}
 use Rattle.udf_found.specs.Order.{addr_cmp}
 use Rattle.udf_tree.specs.Path.{texts_of}
 use Rattle.udf_tree.specs.Survey.{named_by}
+use Rattle.udf_tree.proofs.Descending.{children_wanted, siblings_wanted}
 use Rattle.udf_tree.proofs.Enrolling.{kept_parts, root_there}
 use Rattle.udf_tree.proofs.Judging.{judged_each, judged_nodes}
 use Rattle.udf_tree.proofs.Measuring.{content_nodes}
@@ -95,6 +97,8 @@ returns c f v some surveyed counts contents taken =
       names_are = named_nodes f v hs is (texts_of notes.names.items) ns told.names_are.each same own;
       stated_are = told.stated_are ∙ stated_wanted f v e surveyed.entries is ns nodes same;
       counts_are = told.counts_are ∙ counts_wanted f v e surveyed.entries is ns nodes same c.args.dues.now.counts.items counts;
+      children_are = ap (λ (xs : List Addr). map (λ (z : Kin). named_by xs z.first_child) notes.kin.items) addresses ∙ told.children_are ∙ children_wanted f v e is ns same;
+      siblings_are = ap (λ (xs : List Addr). map (λ (z : Kin). named_by xs z.next_sibling) notes.kin.items) addresses ∙ told.siblings_are ∙ siblings_wanted f v e is ns same;
       kept_contents_are = content_nodes f v hs is notes.contents.items ns (node_addresses ns) told.contents_are same nodes.each;
       files_are = c.in_ok-files_named.ensures f v c.args.root c.args.file_set links ids surveyed;
       system_is = ap (λ (xs : List Addr). named_by xs c.system_of-system.result) addresses ∙ c.system_of-system.ensures f v c.args.root c.args.file_set links ids surveyed;

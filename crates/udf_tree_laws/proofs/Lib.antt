@@ -1,0 +1,4 @@
+pub mod Under
+pub mod Children
+pub mod Once
+pub mod Subtrees
