@@ -26,6 +26,8 @@ use Rattle.udf_top.specs.Checking.{found_at}
 use Rattle.udf_top.specs.Texts.{text_of, replayed_text}
 use Rattle.udf_top.specs.Repairing.{replaying, refused_log, refused_size, repaired_as, mend_of, mend_sized, said_sized, written_in, repair_from, repair_of, said_from, repair_said}
 use Rattle.udf_top.specs.Endings.{Ending, Mended, Told, DeviceFailed, Failed, ending_of, IsEnd, IsMendedOrFailed, IsUnopened, HasEnded, HasRepaired, HasRepairedOrFailed, HasOpenedNoGate}
+use Rattle.udf_intact.specs.Images.{KeepsPathAs}
+use Rattle.udf_intact.proofs.Images.{mend_keeps_as}
 use Rattle.udf_top.specs.Headline.{IsDone, IsSafe, IsReplayed, Repairs}
 use Rattle.udf_top.specs.Steps.{IsSettling, IsMending, IsMended, Mends, Says}
 use Rattle.udf_top.specs.Udffsck.{said_beside, HoldsFront, Sizes}
@@ -238,6 +240,7 @@ module _ (given : Option ℕ) (size replayed : ℕ) (old middle end : Held) (res
         holds = is.holds ∙ sym (target_goes (bytes_of Image old) (bytes_of Side old) given can ∙ sized_mend given size j sized);
         accepted = ap (λ (found : Option ℕ). accepted_by found (bytes_of Image end)) kept ∙ ap (is_accepted size) is.holds ∙ accepted_after size j known bytes accepted;
         unbroken = ap (λ (found : Option ℕ). unbroken_by found (bytes_of Image end)) kept ∙ ap (is_unbroken size) is.holds ∙ unbroken_after size j known bytes accepted;
+        paths = λ steps intact. subst (λ (after : List ℕ). KeepsPathAs given j after steps) (sized_mend given size j sized ∙ sym is.holds) (mend_keeps_as given size j known bytes sized steps intact);
         side = is.side;
         synced = is.synced;
       }

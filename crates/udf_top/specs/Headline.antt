@@ -1,10 +1,12 @@
 -- What a repair promises of its files, from the start of the run to its end.
-use Rattle.std.specs.Prelude.{◌≡◌, ◌⊎◌, ℕ, true, Option, Some, None, length, slice_index}
+use Rattle.std.specs.Prelude.{◌≡◌, ◌⊎◌, ℕ, true, List, Option, Some, None, length, slice_index}
 use Rattle.udf_outside.specs.declared.bench.Role.TheVariants.{Image, Side}
 use Rattle.udf_outside.specs.Stops.{Held, Pair, bytes_of, pair_of, IsSynced, LeavesOnly}
 use Rattle.udf_volume_model.specs.Opened.{plan_of}
 use Rattle.udf_volume_model.specs.Size.{size_of}
 use Rattle.udf_mended_image.specs.Sized.{is_accepted_as, is_unbroken_as}
+use Rattle.udf_intact.specs.Images.{IsIntactAs, KeepsPathAs}
+use Rattle.udf_intact.specs.Steps.{Step}
 use Rattle.udf_layer.specs.declared.missing.Missing.{Missing}
 use Rattle.udf_redo.specs.Log.{head_in, sealed_in}
 use Rattle.udf_redo.specs.Settled.{settled, IsOpenLog, IsFree, CanGoOn, IsElsewhere}
@@ -31,12 +33,13 @@ pub record IsSafe (given : Option ℕ) (start pair : Pair) : Type 0 where
       → (sealed_in (head_in pair.1) pair.0 ≡ sealed_in (head_in pair.1) start.0)
       ⊎ (sealed_in (head_in pair.1) pair.0 ≡ sealed_in (head_in pair.1) (settled start))
 
--- The files after a repair that ended: the image is the target, is accepted, and breaks no rule; no log is open; and nothing is
--- pending.
+-- The files after a repair that ended: the image is the target, is accepted, and breaks no rule; each path that no damage touches in
+-- the settled image leads to the file to which it led, with the same bytes; no log is open; and nothing is pending.
 pub record IsDone (given : Option ℕ) (start : Pair) (end : Held) : Type 0 where
   pub holds : bytes_of Image end ≡ target given start
   pub accepted : is_accepted_as given (bytes_of Image end) ≡ true
   pub unbroken : is_unbroken_as given (bytes_of Image end) ≡ true
+  pub paths : (steps : List Step) → IsIntactAs given (settled start) steps → KeepsPathAs given (settled start) (bytes_of Image end) steps
   pub side : IsFree (bytes_of Side end)
   pub synced : IsSynced end
 

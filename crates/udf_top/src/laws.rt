@@ -7,6 +7,8 @@ ghost use Rattle.udf_model.specs.Bytes.{IsBytes};
 ghost use Rattle.udf_model.specs.Size.{is_size};
 ghost use Rattle.udf_mended_image.specs.Accepted.{is_accepted, is_unbroken};
 ghost use Rattle.udf_mended_image.specs.Sized.{is_accepted_as, is_unbroken_as};
+ghost use Rattle.udf_intact.specs.Images.{IsIntactAs, KeepsPathAs};
+ghost use Rattle.udf_intact.specs.Steps.{Step};
 ghost use Rattle.udf_redo.specs.Settled.{settled, IsOpenLog};
 ghost use Rattle.udf_top.specs.Repairing.{replaying, repair_of, target, written_in};
 ghost use Rattle.udf_top.specs.Headline.{IsDone};
@@ -34,12 +36,16 @@ pub fn clean_law()
 {}
 
 /// After any number of stops, each in a repair that began with what the one before left, the image in which a repair ends is
-/// still the same; so a chain of stopped repairs and one that ends has the image of the repair that was never stopped.
+/// still the same; so a chain of stopped repairs and one that ends has the image of the repair that was never stopped. Each path that
+/// no damage touched at the start leads at the end to the file to which it led, with the same bytes.
 pub fn chain_law()
     ensures target { (given : Option ℕ) (start : Pair) (pairs : List Pair) → AreLeft given start pairs
         → target given (last_of start pairs) ≡ target given start }
     ensures ends { (given : Option ℕ) (start : Pair) (pairs : List Pair) (end : Held) → AreLeft given start pairs
         → IsDone given (last_of start pairs) end → bytes_of Image end ≡ target given start }
+    ensures paths { (given : Option ℕ) (size : ℕ) (start : Pair) (pairs : List Pair) (end : Held) → is_size size ≡ true → IsBytes (settled start)
+        → size_of given (settled start) ≡ Some size → AreLeft given start pairs → IsDone given (last_of start pairs) end → (steps : List Step)
+        → IsIntactAs given (settled start) steps → KeepsPathAs given (settled start) (bytes_of Image end) steps }
 {}
 
 /// After a repair that ended no log of the image is open, the files stand for the image as it is, and a second repair has it

@@ -1,0 +1,15 @@
+pub mod Room
+pub mod Contents
+pub mod Spacious
+pub mod Owning
+pub mod Intact
+pub mod FileSet
+pub mod System
+pub mod Stepping
+pub mod Bytes
+pub mod Keeping
+pub mod Images
+pub mod Kept
+pub mod Fitted
+pub mod Lawful
+pub mod Unbroken

@@ -1,0 +1,5 @@
+pub mod Steps
+pub mod Entries
+pub mod Paths
+pub mod Images
+pub mod Lawful
