@@ -1,5 +1,5 @@
-//! Laws of the tree of kept entries: which children each has, and that by children all are met from the root. Each law is the contract of a function with an empty body. It stands
-//! on the definitions of trees.
+//! Laws of the tree of kept entries: which children each has, and that from the root all are met by children. Each law is the contract
+//! of a function with an empty body. It stands on the definitions of trees.
 #![tactic(auto)]
 
 ghost use Rattle.std.specs.Prelude.{◌≡◌, ◌≢◌, ◌≤◌, ◌↔◌, ℕ, AllPairs, Contains, None, true, length};
