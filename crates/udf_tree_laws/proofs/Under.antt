@@ -83,20 +83,6 @@ other_than a b n = go (same_addr a b) refl
     go true e = absurd (n (same_address a b e))
     go false e = e
 
--- where the file set stands in the volume and is no holder, there is no pointer that it could hold
-pub holds_none : (f : Frame) (v : Volume) → IsFileSetPlaced f v → is_holder f v f.file_set ≡ false → is_some f.system ≡ false
-unfolding is_holder
-holds_none f v placed e = go (is_some f.system) refl
-  where
-    go : (x : Bool) → is_some f.system ≡ x → is_some f.system ≡ false
-    go false h = h
-    go true h =
-        let p = placed h in
-        absurd
-        (false≢true
-        (sym e
-        ∙ and_from (is_some f.system) _ h (and_from (same_addr f.file_set f.file_set) _ (address_same f.file_set f.file_set refl) (and_from (is_address f.file_set) _ p.0 p.1))))
-
 -- the parent of another than the root, by the link that keeps it
 pub parent_is : (f : Frame) (v : Volume) (b : Addr) (r : Rank) → b ≢ f.root → keeping (setting_of f v) (tree_of f v) b ≡ Some r → parent f v b ≡ cond (same_addr r.holder f.file_set) f.root r.holder
 unfolding parent
